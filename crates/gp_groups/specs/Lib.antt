@@ -1,0 +1,11 @@
+pub mod Attributes
+pub mod Group
+pub mod Places
+pub mod Sequence
+pub mod Steps
+pub mod Triangles
+pub mod Varint
+pub mod WrittenAttributes
+pub mod WrittenGroup
+pub mod WrittenSequence
+pub mod WrittenTriangles
