@@ -1,0 +1,43 @@
+-- The headline of packing: whatever bytes the source gives, where memory is found and no count of faults rises, the run reports
+-- their first fault and writes nothing, or it writes a file that is the same asset.
+use Rattle.std.specs.Prelude.{◌≡◌, ◌≢◌, ◌⊎◌, ℕ, ◌<◌, ◌≤◌, ◌^◌, List, length, Some}
+use Rattle.gp_pack.specs.Faults.{HasFault}
+use Rattle.gp_pack.specs.Same.{Same}
+use Rattle.gp_pack.specs.declared.refusal.Refusal.{Refusal}
+use Rattle.gp_app.specs.Words.{command}
+use Rattle.gp_app.specs.Lines.{too_large_line, line_of_refusal}
+use Rattle.gp_app.specs.Moment.{Moment, NoneRose}
+use Rattle.gp_app.specs.Input.{ReadToEnd}
+use Rattle.gp_app.specs.Written.{WroteAll}
+use Rattle.gp_app.specs.declared.commands.Command.TheVariants.{Pack}
+use Rattle.gp_app.specs.declared.status.Status.{Status}
+use Rattle.gp_app.specs.declared.status.Status.TheVariants.{Done, Refused, Memory}
+
+-- the line of the first fault of these bytes: that there are too many, or the fault of what they hold
+abbrev pub TellsFault : List ℕ → List ℕ → Type 0
+TellsFault bytes line =
+    ((2 ^ 29 < length bytes) × (line ≡ too_large_line))
+    ⊎ ((length bytes ≤ 2 ^ 29) × ((refusal : Refusal) × HasFault bytes refusal × (line ≡ line_of_refusal refusal)))
+
+-- the first fault was reported, and nothing was written to the output
+pub record ReportsFault (bytes : List ℕ) (before after : Moment) (status : Status) : Type 0 where
+  pub refused : status ≡ Refused
+  pub line : List ℕ
+  pub fault : TellsFault bytes line
+  pub told : WroteAll before.report after.report line
+  pub untouched : after.output ≡ before.output
+
+-- all bytes were read, and what was written is the same asset
+pub record WritesSame (bytes : List ℕ) (before after : Moment) : Type 0 where
+  pub read : ReadToEnd before.input after.input bytes
+  pub glb : List ℕ
+  pub written : WroteAll before.output after.output glb
+  pub same : Same bytes glb
+
+-- where packing is done, the same asset was written
+abbrev pub KeepsAsset : List (List ℕ) → Moment → Moment → Status → Type 0
+KeepsAsset words before after status = command words ≡ Some Pack → status ≡ Done → (bytes : List ℕ) × WritesSame bytes before after
+
+abbrev pub Headline : List (List ℕ) → Moment → Moment → Status → Type 0
+Headline words before after status = (bytes : List ℕ) → command words ≡ Some Pack → before.input.left ≡ Some bytes → NoneRose before after → status ≢ Memory
+    → ReportsFault bytes before after status ⊎ ((status ≡ Done) × WritesSame bytes before after)

@@ -1,0 +1,86 @@
+// From the source to what is to be written.
+ghost use Rattle.std.specs.Prelude.{◌≡◌, ◌≤◌, ◌+◌, ◌^◌, length, IfOk, IfErr};
+ghost use Rattle.gp_app.specs.Work.{Refuses, Makes};
+ghost use Rattle.gp_app.specs.Answer.{Answers, made_by, IsFaultOrMemory};
+ghost use Rattle.gp_app.specs.Taken.{TakesInput};
+
+use crate::commands::Command;
+use crate::lines::packed_line;
+use arrayvec::ArrayVec;
+use gp_host::{Bytes, ReadRefusal, Source, read_all};
+use gp_pack::{Refusal, pack};
+use std::alloc::Global;
+
+/// The greatest length of an input.
+const MOST: usize = 1 << 29;
+
+/// What is to be written, and the line of a run that is done, where it has one.
+#[derive(Drop)]
+pub(crate) struct Answer {
+    pub(crate) out: Bytes,
+    pub(crate) line: Option<ArrayVec<u8, 96>>,
+}
+
+/// Why nothing is to be written.
+#[derive(Clone, Copy, Debug, PartialEq, Eq)]
+pub(crate) enum Stop {
+    InputFailed,
+    TooLarge,
+    Faulty(Refusal),
+    NoMemory,
+}
+
+/// Takes the whole input of a command and works on it.
+pub(crate) fn answer_to<S: Source>(
+    alloc: Global,
+    asked: Command,
+    input: &mut S,
+) -> Result<Answer, Stop>
+    ensures answers { Answers asked (S.state input.old) (S.state input.new) result }
+    ensures turns { (S.state input.new).calls ≤ (S.state input.old).calls + 2 ^ 29 + 1 }
+    ensures later { (S.state input.old).faults ≤ (S.state input.new).faults }
+{
+    let bytes = match take_input(alloc, asked, input) {
+        Ok(bytes) => bytes,
+        Err(stop) => return Err(stop),
+    };
+    match work(alloc, asked, &bytes) {
+        Ok(answer) => Ok(answer),
+        Err(Refusal::Memory) => Err(Stop::NoMemory),
+        Err(refusal) => Err(Stop::Faulty(refusal)),
+    }
+}
+
+/// Takes the whole input of a command: all that the source has left.
+fn take_input<S: Source>(alloc: Global, asked: Command, input: &mut S) -> Result<Vec<u8>, Stop>
+    ensures takes { TakesInput asked (S.state input.old) (S.state input.new) result }
+    ensures fits { IfOk result (λ bytes. length bytes.items ≤ 2 ^ 29) }
+    ensures turns { (S.state input.new).calls ≤ (S.state input.old).calls + 2 ^ 29 + 1 }
+    ensures later { (S.state input.old).faults ≤ (S.state input.new).faults }
+{
+    match asked {
+        Command::Pack => match read_all(alloc, input, MOST) {
+            Ok(bytes) => Ok(bytes),
+            Err(ReadRefusal::Failed) => Err(Stop::InputFailed),
+            Err(ReadRefusal::TooLarge) => Err(Stop::TooLarge),
+            Err(ReadRefusal::Memory) => Err(Stop::NoMemory),
+        },
+    }
+}
+
+/// Makes the output of an input, and its line.
+#[tactic(auto, unfolding(crate::specs::Work::Makes, crate::specs::Work::Refuses))]
+fn work(alloc: Global, asked: Command, bytes: &[u8]) -> Result<Answer, Refusal>
+    ensures makes { IfOk result (λ answer. Makes asked bytes.now (made_by answer)) }
+    ensures refused { IfErr result (IsFaultOrMemory asked bytes.now) }
+{
+    match asked {
+        Command::Pack => {
+            let out = pack(alloc, bytes)?;
+            Ok(Answer {
+                line: Some(packed_line(&out, bytes.len())),
+                out: out.glb,
+            })
+        }
+    }
+}

@@ -1,0 +1,47 @@
+// Comparing keys by the 16-bit units that they stand for.
+ghost use Rattle.std.specs.Prelude.{◌≡◌, ◌↔◌, IsTrue};
+ghost use Rattle.gp_json.specs.Key.{units};
+
+use crate::lexeme::Lexeme;
+use crate::units::Units;
+
+/// Whether two strings stand for the same 16-bit units (RFC 8259, section 8.3): `a` and `\u0061` do,
+/// and a character past U+FFFF and its pair of escapes. An escaped surrogate on its own is a unit
+/// like any other. Takes no memory.
+pub fn same_key(a: &Lexeme, b: &Lexeme) -> bool
+    ensures { IsTrue result ↔ (units a.now ≡ units b.now) }
+{
+    let mut left = Units::new(a.as_slice());
+    let mut right = Units::new(b.as_slice());
+    'units: loop {
+        let x = left.next();
+        let y = right.next();
+        if x != y {
+            return false;
+        }
+        if x.is_none() {
+            return true;
+        }
+    }
+}
+
+/// Whether a string stands for this ASCII name, of which each character is one unit (RFC 8259,
+/// section 8.3). Takes no memory.
+pub fn key_is(key: &Lexeme, name: &str) -> bool
+    ensures { IsTrue result ↔ (units key.now ≡ name.now) }
+{
+    has_units(key.as_slice(), name.as_bytes())
+}
+
+// Whether a spelled string has these units, each below 256.
+pub(crate) fn has_units(spelling: &[u8], name: &[u8]) -> bool
+    ensures { IsTrue result ↔ (units spelling.now ≡ name.now) }
+{
+    let mut left = Units::new(spelling);
+    'bytes: for i in 0..name.len() {
+        if left.next() != Some(name[i] as u32) {
+            return false;
+        }
+    }
+    left.next().is_none()
+}

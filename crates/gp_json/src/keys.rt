@@ -1,0 +1,234 @@
+// Whether the keys of each object differ.
+ghost use Rattle.std.specs.Prelude.{◌≡◌, ◌<◌, ◌↔◌, ◌++◌, ◌∷◌, ℕ, List, map, IsTrue, IsSorted, IfOk, OnOk};
+ghost use Rattle.std.specs.Str.{IsUtf8};
+ghost use Rattle.std.specs.Char.{digit_value};
+ghost use Rattle.std.specs.Char.Escape.{encode_utf16};
+ghost use Rattle.std.specs.Ordering.{nat_cmp};
+ghost use Rattle.std.specs.Cmp.Lexicographic.{slice_cmp};
+ghost use Rattle.gp_json.specs.Plain.{plain, plain_items, plain_entries};
+ghost use Rattle.gp_json.specs.Key.{units, units_from, escaped_unit};
+ghost use Rattle.gp_json.specs.Lexical.{Each};
+ghost use Rattle.gp_json.specs.Decoding.{place_of, Fits, IsPlainByte, ArePlain};
+ghost use Rattle.gp_json.specs.Sound.{keys, IsSpelled, AreItemsSpelled, AreMembersSpelled, AreDistinct, HasDistinctKeys, ItemsHaveDistinctKeys, MembersHaveDistinctKeys};
+
+use crate::tree::{Member, Tree};
+use std::alloc::{AllocError, Global};
+
+// Where a character of a string stands: outside an escape, after a backslash, or before the last
+// hex digits of an escape, so many and one more, where those before them have this value.
+#[derive(Clone, Copy, Drop)]
+pub(crate) enum Escape {
+    Outside,
+    Backslash,
+    Hex(u32, u32),
+}
+
+// Whether no object of a tree has two equal keys.
+#[cycle(distinct)]
+pub(crate) fn has_distinct_keys(alloc: Global, tree: &Tree) -> Result<bool, AllocError>
+    requires spelled { IsSpelled (plain tree.now) }
+    ensures { IfOk result (λ b. IsTrue b ↔ HasDistinctKeys (plain tree.now)) }
+{
+    match tree {
+        Tree::List(items) => items_have_distinct_keys(alloc, &items.items),
+        Tree::Members(members) => {
+            if !are_keys_distinct(alloc, &members.items)? {
+                return Ok(false);
+            }
+            members_have_distinct_keys(alloc, &members.items)
+        }
+        _ => Ok(true),
+    }
+}
+
+#[cycle(distinct)]
+fn items_have_distinct_keys(alloc: Global, items: &[Tree]) -> Result<bool, AllocError>
+    requires spelled { AreItemsSpelled (plain_items items.now) }
+    ensures { IfOk result (λ b. IsTrue b ↔ ItemsHaveDistinctKeys (plain_items items.now)) }
+{
+    for item in items {
+        if !has_distinct_keys(alloc, item)? {
+            return Ok(false);
+        }
+    }
+    Ok(true)
+}
+
+#[cycle(distinct)]
+fn members_have_distinct_keys(alloc: Global, members: &[Member]) -> Result<bool, AllocError>
+    requires spelled { AreMembersSpelled (plain_entries members.now) }
+    ensures { IfOk result (λ b. IsTrue b ↔ MembersHaveDistinctKeys (plain_entries members.now)) }
+{
+    for member in members {
+        if !has_distinct_keys(alloc, &member.value)? {
+            return Ok(false);
+        }
+    }
+    Ok(true)
+}
+
+// The keys are sorted, so that no object takes quadratic time.
+fn are_keys_distinct(alloc: Global, members: &[Member]) -> Result<bool, AllocError>
+    requires spelled { AreMembersSpelled (plain_entries members.now) }
+    ensures { IfOk result (λ b. IsTrue b
+        ↔ AreDistinct (map units (keys (plain_entries members.now)))) }
+{
+    if members.len() < 2 {
+        return Ok(true);
+    }
+    if are_plain(members) {
+        return are_plain_keys_distinct(alloc, members);
+    }
+    let mut decoded = Vec::new(alloc);
+    for member in members {
+        decoded.push(decode(alloc, member.key.as_slice())?)?;
+    }
+    decoded.sort_unstable();
+    Ok(neighbours_differ(&decoded))
+}
+
+// ASCII without an escape stands for itself.
+fn are_plain_keys_distinct(alloc: Global, members: &[Member]) -> Result<bool, AllocError>
+    requires { ArePlain (plain_entries members.now) }
+    ensures { IfOk result (λ b. IsTrue b
+        ↔ AreDistinct (map units (keys (plain_entries members.now)))) }
+{
+    let mut keys = Vec::new(alloc);
+    for member in members {
+        keys.push(member.key.as_slice())?;
+    }
+    keys.sort_unstable();
+    Ok(neighbour_strings_differ(&keys))
+}
+
+fn are_plain(members: &[Member]) -> bool
+    ensures { IsTrue result → ArePlain (plain_entries members.now) }
+{
+    for member in members {
+        if !is_plain(member.key.as_slice()) {
+            return false;
+        }
+    }
+    true
+}
+
+// Whether a string is ASCII without an escape.
+fn is_plain(string: &[u8]) -> bool
+    ensures { IsTrue result → Each IsPlainByte string.now }
+{
+    for i in 0..string.len() {
+        if string[i] >= 128 || string[i] == b'\\' {
+            return false;
+        }
+    }
+    true
+}
+
+fn neighbour_strings_differ(keys: &[&[u8]]) -> bool
+    requires { IsSorted (λ a b. slice_cmp nat_cmp a.now b.now) keys.now }
+    ensures { IsTrue result ↔ AreDistinct (map (λ k. k.now) keys.now) }
+{
+    for at in 1..keys.len() {
+        if keys[at - 1] == keys[at] {
+            return false;
+        }
+    }
+    true
+}
+
+fn neighbours_differ(keys: &[Vec<u32>]) -> bool
+    requires { IsSorted (λ a b. slice_cmp nat_cmp a.items b.items) keys.now }
+    ensures { IsTrue result ↔ AreDistinct (map (λ k. k.items) keys.now) }
+{
+    for later in 1..keys.len() {
+        if keys[later - 1] == keys[later] {
+            return false;
+        }
+    }
+    true
+}
+
+// The units of a string.
+fn decode(alloc: Global, string: &[u8]) -> Result<Vec<u32>, AllocError>
+    requires { IsUtf8 string.now }
+    ensures { IfOk result (λ v. v.items ≡ units string.now) }
+{
+    let text = unsafe { std::str::from_utf8_unchecked(string) };
+    let mut out = Vec::new(alloc);
+    let mut escape = Escape::Outside;
+    for c in text.chars() {
+        escape = decode_char(&mut out, escape, c)?;
+    }
+    Ok(out)
+}
+
+// Decodes a character, and says where the next one stands.
+fn decode_char(out: &mut Vec<u32>, escape: Escape, c: char) -> Result<Escape, AllocError>
+    requires { Fits escape }
+    ensures fits { IfOk result (λ e. Fits e) }
+    ensures units { IfOk result (λ e. (rest : List ℕ)
+        → out.old.items ++ units_from (place_of escape) (c ∷ rest)
+        ≡ out.new.items ++ units_from (place_of e) rest) }
+{
+    match escape {
+        Escape::Outside => {
+            if c == '\\' {
+                return Ok(Escape::Backslash);
+            }
+            put_utf16(out, c)?;
+            Ok(Escape::Outside)
+        }
+        Escape::Backslash => {
+            if c == 'u' {
+                return Ok(Escape::Hex(3, 0));
+            }
+            out.push(escaped_unit(c as u32))?;
+            Ok(Escape::Outside)
+        }
+        Escape::Hex(left, before) => {
+            let value = before * 16 + digit_value(c);
+            if left == 0 {
+                out.push(value)?;
+                return Ok(Escape::Outside);
+            }
+            Ok(Escape::Hex(left - 1, value))
+        }
+    }
+}
+
+fn put_utf16(out: &mut Vec<u32>, c: char) -> Result<(), AllocError>
+    ensures { OnOk result (out.new.items ≡ out.old.items ++ encode_utf16 c) }
+{
+    let code = c as u32;
+    if code < 0x1_0000 {
+        out.push(code)?;
+        return Ok(());
+    }
+    out.push(0xD800 + (code - 0x1_0000) / 0x400)?;
+    out.push(0xDC00 + (code - 0x1_0000) % 0x400)?;
+    Ok(())
+}
+
+// The value of a letter or digit in the greatest base, and 36 for all else.
+fn digit_value(c: char) -> u32
+    ensures value { result ≡ digit_value c }
+    ensures within { result < 37 }
+{
+    match c.to_digit(36) {
+        Some(digit) => digit,
+        None => 36,
+    }
+}
+
+fn escaped_unit(x: u32) -> u32
+    ensures { result ≡ escaped_unit x }
+{
+    match x {
+        98 => 8,
+        102 => 12,
+        110 => 10,
+        114 => 13,
+        116 => 9,
+        _ => x,
+    }
+}

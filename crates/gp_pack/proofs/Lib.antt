@@ -1,0 +1,6 @@
+pub mod OneAnswer
+pub mod Sameness
+pub mod Needs
+pub mod Documents
+pub mod Answering
+pub mod Lengths

@@ -1,0 +1,10 @@
+pub mod Document
+pub mod Asset
+pub mod Packed
+pub mod Refusals
+pub mod Faults
+pub mod Answers
+pub mod Reading
+pub mod Writing
+pub mod Same
+pub mod Laws

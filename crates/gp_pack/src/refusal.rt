@@ -1,0 +1,59 @@
+// Why a file isn't packed.
+ghost use Rattle.std.specs.Prelude.{◌≡◌};
+
+use gp_glb::GlbFault;
+use gp_host::NoMemory;
+use gp_json::{JsonFault, JsonRefusal};
+use thiserror::Error;
+
+/// The first fault of an input, in the order in which faults are looked for, or want of memory.
+#[derive(Clone, Copy, Debug, PartialEq, Eq, Error)]
+pub enum Refusal {
+    /// The container has a fault.
+    #[error("no container")]
+    Glb(GlbFault),
+    /// The JSON has a fault.
+    #[error("no JSON")]
+    Json(JsonFault),
+    /// The model asks for more than is built.
+    #[error("not yet")]
+    NotYet,
+    /// The output would have 2^32 bytes or more.
+    #[error("the output is too large")]
+    OutputTooLarge,
+    #[error("want of memory")]
+    Memory,
+}
+
+impl From<GlbFault> for Refusal {
+    ghost use Rattle.gp_pack.specs.declared.refusal.Refusal.TheVariants.{Glb};
+
+    ghost from_gives = { λ fault refusal. refusal ≡ Glb fault };
+
+    fn from(fault: GlbFault) -> Self {
+        Refusal::Glb(fault)
+    }
+}
+
+impl From<JsonRefusal> for Refusal {
+    ghost use Rattle.gp_pack.specs.Refusals.{refusal_of};
+
+    ghost from_gives = { λ json refusal. refusal ≡ refusal_of json };
+
+    fn from(json: JsonRefusal) -> Self {
+        match json {
+            JsonRefusal::Fault(fault) => Refusal::Json(fault),
+            JsonRefusal::Memory => Refusal::Memory,
+        }
+    }
+}
+
+impl From<NoMemory> for Refusal {
+    ghost use Rattle.gp_pack.specs.declared.refusal.Refusal.TheVariants.{Memory};
+
+    ghost from_gives = { λ _ refusal. refusal ≡ Memory };
+
+    fn from(_: NoMemory) -> Self {
+        Refusal::Memory
+    }
+}
