@@ -1,0 +1,4 @@
+pub mod Decoding
+pub mod Encoding
+pub mod Resets
+pub mod SameTriangles

@@ -1,0 +1,49 @@
+// Varints, read and written.
+ghost use Rattle.std.specs.Prelude.{◌≡◌, ℕ, ◌≤◌, List, ◌++◌, length, IfOk, Ok};
+ghost use Rattle.gp_groups.specs.Varint.{spelled, varint};
+
+use arrayvec::ArrayVec;
+use gp_groups::StreamFault;
+
+/// The value of the varint at the front and how many bytes it takes (EXT_meshopt_compression, modes 1 and 2).
+/// Longer spellings of a value are read. `Short` where the bytes run out, `Varint` where the fifth byte is over 15.
+pub fn read_varint(bytes: &[u8]) -> Result<(u32, usize), StreamFault>
+    ensures value { result ≡ varint bytes.now }
+    ensures within { IfOk result (λ read. read.1 ≤ length bytes.now) }
+{
+    let mut value: u32 = 0;
+    let mut weight: u32 = 1;
+    'digits: for k in 0..4 {
+        if k == bytes.len() {
+            return Err(StreamFault::Short);
+        }
+        value += weight * u32::from(bytes[k] % 128);
+        weight *= 128;
+        if bytes[k] < 128 {
+            return Ok((value, k + 1));
+        }
+    }
+    if bytes.len() == 4 {
+        Err(StreamFault::Short)
+    } else if bytes[4] > 15 {
+        Err(StreamFault::Varint)
+    } else {
+        Ok((value + weight * u32::from(bytes[4]), 5))
+    }
+}
+
+/// The shortest varint of a value, of one to five bytes (EXT_meshopt_compression, modes 1 and 2).
+pub fn write_varint(value: u32) -> ArrayVec<u8, 5>
+    ensures value { result.items ≡ spelled value }
+    ensures shortest { (bytes : List ℕ) (n : ℕ) → varint bytes ≡ Ok (value, n) → length result.items ≤ n }
+    ensures read_back { (after : List ℕ) → varint (result.items ++ after) ≡ Ok (value, length result.items) }
+{
+    let mut bytes = ArrayVec::new();
+    let mut rest = value;
+    'digits: while rest >= 128 {
+        bytes.push((128 + rest % 128) as u8);
+        rest /= 128;
+    }
+    bytes.push(rest as u8);
+    bytes
+}
