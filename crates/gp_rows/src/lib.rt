@@ -1,0 +1,10 @@
+//! Tests of the whole program: rows of files with what `pack` answers for them, over sources and sinks in memory that
+//! take and give few bytes at a time, and that fail.
+#![tactic(auto)]
+
+#[cfg(test)]
+mod failing;
+#[cfg(test)]
+mod files;
+#[cfg(test)]
+mod words;

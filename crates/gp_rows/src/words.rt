@@ -1,0 +1,60 @@
+// Which words are commands.
+use gp_app::{Command, Status, command, run};
+use gp_host::{MemorySink, MemorySource, NoMemory, Source};
+use std::alloc::Global;
+use std::test::Fail;
+
+const USAGE: &[u8] = b"usage: glbpack pack / unpack / analyse / sample N\n";
+
+fn words_of(alloc: Global, texts: &[&str]) -> Result<Vec<String>, NoMemory> {
+    let mut words = Vec::new(alloc);
+    for text in texts {
+        words.push(String::from_str(alloc, text)?)?;
+    }
+    Ok(words)
+}
+
+#[test]
+fn pack_is_the_one_command(rt: HostRuntime) -> Result<(), Fail> {
+    let alloc = rt.alloc();
+    assert_eq!(rt; command(&words_of(alloc, &["pack"])?), Some(Command::Pack));
+    let others: [&[&str]; 8] = [
+        &[],
+        &[""],
+        &["Pack"],
+        &["pack", "x"],
+        &["sample", "0"],
+        &["unpack"],
+        &["--help"],
+        &["pack "],
+    ];
+    for words in others {
+        assert_eq!(rt; command(&words_of(alloc, words)?), None);
+    }
+    Ok(())
+}
+
+#[test]
+fn other_words_read_and_write_nothing(rt: HostRuntime) -> Result<(), Fail> {
+    let alloc = rt.alloc();
+    let words = words_of(alloc, &["pack", "x"])?;
+    let mut input = MemorySource::new(Vec::from_slice(alloc, b"{}")?, 8, Vec::new(alloc));
+    let mut output = MemorySink::new(alloc, 64, 8, Vec::new(alloc))?;
+    let mut report = MemorySink::new(alloc, 96, 8, Vec::new(alloc))?;
+    let status = run(alloc, &words, &mut input, &mut output, &mut report);
+    assert_eq!(rt; status, Status::Usage);
+    assert_eq!(rt; output.held(), b"".as_slice());
+    assert_eq!(rt; report.held(), USAGE);
+    let mut left = [0; 4];
+    assert_eq!(rt; input.read(&mut left), Ok(2));
+    Ok(())
+}
+
+#[test]
+fn each_status_has_its_exit_code(rt: HostRuntime) {
+    assert_eq!(rt; Status::Done.code(), 0);
+    assert_eq!(rt; Status::Refused.code(), 1);
+    assert_eq!(rt; Status::Usage.code(), 2);
+    assert_eq!(rt; Status::Outside.code(), 3);
+    assert_eq!(rt; Status::Memory.code(), 4);
+}
