@@ -1,8 +1,9 @@
 // Which models ask for more than is built.
-ghost use Rattle.std.specs.Prelude.{◌≡◌};
+ghost use Rattle.std.specs.Prelude.{◌≡◌, codes};
 ghost use Rattle.std.specs.List.{list_any};
 ghost use Rattle.gp_json.specs.Plain.{plain, plain_member};
 ghost use Rattle.gp_json.specs.Find.{is_named};
+ghost use Rattle.gp_json.specs.Anywhere.{has_member};
 ghost use Rattle.gp_pack.specs.Asset.{is_asset_member, needs_more};
 
 use gp_json::{Lexeme, Member, Tree, key_is};
@@ -13,11 +14,16 @@ pub(crate) fn needs_more(root: &Tree) -> bool
     ensures { result ≡ needs_more (plain root.now) }
 {
     match root {
-        Tree::Members(members) => {
-            has_asset_member(members.as_slice()) || root.has_member("extensions")
-        }
+        Tree::Members(members) => { has_asset_member(members.as_slice()) || has_extensions(root) }
         Tree::Null | Tree::Truth(_) | Tree::Number(_) | Tree::Text(_) | Tree::List(_) => true,
     }
+}
+
+// Whether some object in the tree has extensions.
+fn has_extensions(root: &Tree) -> bool
+    ensures { result ≡ has_member (codes "extensions") (plain root.now) }
+{
+    root.has_member("extensions")
 }
 
 // Whether one of these members is a member of an asset.

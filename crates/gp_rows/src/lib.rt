@@ -7,4 +7,6 @@ mod failing;
 #[cfg(test)]
 mod files;
 #[cfg(test)]
+mod lines;
+#[cfg(test)]
 mod words;
