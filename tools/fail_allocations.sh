@@ -1,25 +1,26 @@
 #!/usr/bin/env bash
-# Packs a file again and again, with the first, second, third .. allocation made to fail, until none is left to fail:
-#   tools/fail_allocations.sh FILE
-# Each run must end with the right answer, or with `want of memory` and nothing written.
+# Packs a file again and again, with the first, second, third .. allocation made to fail:
+#   tools/fail_allocations.sh FILE MOST
+# Each run must end with the right answer (an allocation may be tried a second time, or there may be fewer), or with
+# `want of memory` and nothing written.
 set -eu
 top=$(cd "$(dirname "$0")/.." && pwd)
 file=$(realpath "$1")
+most=$2
 work=$(mktemp -d)
 trap 'rm -rf "$work"' EXIT
 
 "$top/glbpack" pack <"$file" >"$work/wanted" 2>"$work/line"
 cd "$top/crates/glbpack"
-for number in $(seq 1 10000); do
-    rt try --fail-alloc "$number" -- pack <"$file" >"$work/out" 2>"$work/told" || true
-    if grep -aq 'ended status=4' "$work/told" "$work/out" && ! grep -aqF 'glTF' "$work/out" && grep -aq '^want of memory$' "$work/told" "$work/out"; then
-        continue
+refused=0
+for number in $(seq 1 "$most"); do
+    rt try --fail-alloc "$number" -- pack <"$file" >"$work/told" 2>&1 || true
+    if grep -aq 'ended status=4' "$work/told" && grep -aq '^want of memory$' "$work/told" && ! grep -aqF 'glTF' "$work/told"; then
+        refused=$((refused + 1))
+    elif ! grep -aq 'ended status=0' "$work/told" || ! grep -aqFf "$work/line" "$work/told"; then
+        echo "allocation $number: another ending"
+        cat "$work/told"
+        exit 1
     fi
-    if grep -aqFf "$work/line" "$work/told" "$work/out"; then
-        echo "$((number - 1)) allocations failed in turn: each run ended with want of memory, and nothing was written"
-        exit 0
-    fi
-    echo "allocation $number: another ending"
-    cat "$work/told"
-    exit 1
 done
+echo "$most allocations failed in turn: $refused runs ended with want of memory and nothing written, the others with the right answer"
