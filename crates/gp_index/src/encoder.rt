@@ -163,7 +163,11 @@ pub fn encode_triangles(alloc: Global, indices: &[u32]) -> Result<Vec<u8>, NoMem
     let mut behind = Vec::new(alloc);
     bytes.push(0xE1)?;
     'triangles: for k in 0..indices.len() / 3 {
-        let (code, auxiliary) = encoder.piece(indices[3 * k], indices[3 * k + 1], indices[3 * k + 2]);
+        let (code, auxiliary) = encoder.piece(
+            indices[3 * k],
+            indices[3 * k + 1],
+            indices[3 * k + 2],
+        );
         bytes.push(code)?;
         auxiliary.append_to(&mut behind)?;
     }
