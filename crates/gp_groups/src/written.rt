@@ -39,18 +39,18 @@ pub fn encode_group(mode: u8, values: &[u8; 16]) -> ArrayVec<u8, 24>
         0 => ArrayVec::new(),
         1 => with_large(quads(values), values, 3),
         2 => with_large(pairs(values), values, 15),
-        _ => with_large(ArrayVec::new(), values, 0),
+        _ => plain(values),
     }
 }
 
 // How many values are at least `limit`.
-fn count_from(values: &[u8; 16], limit: u8) -> usize
+fn count_from(values: &[u8; 16], limit: u8) -> u8
     ensures value { result ≡ at_least limit values.now }
     ensures most { result ≤ 16 }
 {
     let mut count = 0;
     'values: for value in values {
-        count += usize::from(limit <= *value);
+        count += u8::from(limit <= *value);
     }
     count
 }
@@ -80,6 +80,15 @@ fn pairs(values: &[u8; 16]) -> ArrayVec<u8, 24>
     'bytes: for k in 0..8 {
         bytes.push(16 * values[2 * k].min(15) + values[2 * k + 1].min(15));
     }
+    bytes
+}
+
+// The values as they are.
+fn plain(values: &[u8; 16]) -> ArrayVec<u8, 24>
+    ensures { result.items ≡ values.now }
+{
+    let mut bytes = ArrayVec::new();
+    let _fits = bytes.try_extend_from_slice(values);
     bytes
 }
 

@@ -1,15 +1,14 @@
 // Streams of triangles, written.
 ghost use Rattle.std.specs.Prelude.{◌≡◌, ◌+◌, ◌%◌, ◌==◌, ◌<◌, ◌≤◌, ◌^◌, ◌++◌, length, take, IfOk};
 ghost use Rattle.std.specs.List.{All, position};
-ghost use Rattle.arrayvec.specs.ArrayVec.{array_vec_len};
 ghost use Rattle.gp_groups.specs.WrittenTriangles.{behind_edge, codeaux, free_code, next_leads, piece, rotated, triw, without_edge};
-ghost use Rattle.gp_index.specs.Encoding.{InRange, counted, kept_piece, standing_of};
+ghost use Rattle.gp_index.specs.Encoding.{InRange, byte_if, bytes_of, counted, kept_piece, standing_of};
 ghost use Rattle.gp_index.specs.SameTriangles.{HasTriangles};
 
+use crate::auxiliary::Auxiliary;
 use crate::counters::Counters;
 use crate::pushes::{is_half_new, is_third_new, push_if};
 use crate::written::{write_first, write_half, write_third};
-use arrayvec::ArrayVec;
 use gp_host::NoMemory;
 use gp_queues::{EdgeQueue, VertexQueue};
 use std::alloc::Global;
@@ -29,12 +28,12 @@ pub struct Encoder {
 
 impl Encoder {
     // The code and the auxiliary bytes of a triangle.
-    fn piece(&mut self, a: u32, b: u32, c: u32) -> (u8, ArrayVec<u8, 16>)
+    fn piece(&mut self, a: u32, b: u32, c: u32) -> (u8, Auxiliary)
         requires numbers { InRange self.old.counters }
         requires a { a < 2 ^ 24 }
         requires b { b < 2 ^ 24 }
         requires c { c < 2 ^ 24 }
-        ensures value { kept_piece (standing_of self.old) (piece (standing_of self.old) (a, b, c)) ≡ ((result.0, result.1.items), standing_of self.new) }
+        ensures value { kept_piece (standing_of self.old) (piece (standing_of self.old) (a, b, c)) ≡ ((result.0, bytes_of result.1), standing_of self.new) }
         ensures numbers { InRange self.new.counters }
     {
         if let Some((place, side)) = self.edges.find(a, b, c) {
@@ -47,40 +46,41 @@ impl Encoder {
     }
 
     // The triangle of the edge at a place and c.
-    fn behind_edge(&mut self, place: usize, a: u32, b: u32, c: u32) -> (u8, ArrayVec<u8, 16>)
+    fn behind_edge(&mut self, place: usize, a: u32, b: u32, c: u32) -> (u8, Auxiliary)
         requires place { place < 15 }
         requires numbers { InRange self.old.counters }
         requires c { c < 2 ^ 24 }
-        ensures value { kept_piece (standing_of self.old) (behind_edge self.old.vertices (counted self.old.counters) place (a, b, c)) ≡ ((result.0, result.1.items), standing_of self.new) }
+        ensures value { kept_piece (standing_of self.old) (behind_edge self.old.vertices (counted self.old.counters) place (a, b, c)) ≡ ((result.0, bytes_of result.1), standing_of self.new) }
         ensures numbers { InRange self.new.counters }
     {
         let third = write_third(&self.vertices, c, self.counters);
-        let mut bytes = ArrayVec::new();
-        append(&mut bytes, &third.bytes);
         self.edges.push(c, b);
         self.edges.push(a, c);
         push_if(&mut self.vertices, is_third_new(third.half), c);
         self.counters = third.counters;
-        (16 * place as u8 + third.half, bytes)
+        let auxiliary = Auxiliary {
+            halves: None,
+            first: None,
+            second: None,
+            third: third.explicit,
+        };
+        (16 * place as u8 + third.half, auxiliary)
     }
 
     // The triangle that `a` leads.
-    fn without_edge(&mut self, a: u32, b: u32, c: u32) -> (u8, ArrayVec<u8, 16>)
+    fn without_edge(&mut self, a: u32, b: u32, c: u32) -> (u8, Auxiliary)
         requires numbers { InRange self.old.counters }
         requires a { a < 2 ^ 24 }
         requires b { b < 2 ^ 24 }
         requires c { c < 2 ^ 24 }
-        ensures value { kept_piece (standing_of self.old) (without_edge self.old.vertices (counted self.old.counters) (a, b, c)) ≡ ((result.0, result.1.items), standing_of self.new) }
+        ensures value { kept_piece (standing_of self.old) (without_edge self.old.vertices (counted self.old.counters) (a, b, c)) ≡ ((result.0, bytes_of result.1), standing_of self.new) }
         ensures numbers { InRange self.new.counters }
     {
         let is_next = a == self.counters.next;
         let first = write_first(is_next, a, self.counters);
         let second = write_half(&self.vertices, b, first.counters);
         let third = write_half(&self.vertices, c, second.counters);
-        let (code, mut bytes) = free_code(is_next, 16 * second.half + third.half);
-        append(&mut bytes, &first.bytes);
-        append(&mut bytes, &second.bytes);
-        append(&mut bytes, &third.bytes);
+        let (code, halves) = free_code(is_next, 16 * second.half + third.half);
         self.edges.push(b, a);
         self.edges.push(c, b);
         self.edges.push(a, c);
@@ -88,7 +88,13 @@ impl Encoder {
         push_if(&mut self.vertices, is_half_new(second.half), b);
         push_if(&mut self.vertices, is_half_new(third.half), c);
         self.counters = third.counters;
-        (code, bytes)
+        let auxiliary = Auxiliary {
+            halves,
+            first: first.explicit,
+            second: second.explicit,
+            third: third.explicit,
+        };
+        (code, auxiliary)
     }
 }
 
@@ -119,20 +125,15 @@ fn lead_with_next(next: u32, a: u32, b: u32, c: u32) -> (u32, u32, u32)
 }
 
 // The code of a triangle without an edge, and the byte ZW, where it is an auxiliary one.
-fn free_code(is_next: bool, halves: u8) -> (u8, ArrayVec<u8, 16>)
-    ensures value { (result.0, result.1.items) ≡ free_code is_next halves }
-    ensures short { array_vec_len result.1 ≤ 1 }
+fn free_code(is_next: bool, halves: u8) -> (u8, Option<u8>)
+    ensures { (result.0, byte_if result.1) ≡ free_code is_next halves }
 {
-    let mut bytes = ArrayVec::new();
-    if is_next {
-        if let Some(entry) = table_entry(halves) {
-            return (0xF0 + entry as u8, bytes);
-        }
-        bytes.push(halves);
-        (0xFE, bytes)
-    } else {
-        bytes.push(halves);
-        (0xFF, bytes)
+    if !is_next {
+        return (0xFF, Some(halves));
+    }
+    match table_entry(halves) {
+        Some(entry) => (0xF0 + entry as u8, None),
+        None => (0xFE, Some(halves)),
     }
 }
 
@@ -141,15 +142,6 @@ fn table_entry(halves: u8) -> Option<usize>
     ensures { result ≡ position (λ entry. entry == halves) (take 14 codeaux) }
 {
     CODEAUX[..14].iter().position(|entry| *entry == halves)
-}
-
-// Appends the bytes of a corner.
-fn append(bytes: &mut ArrayVec<u8, 16>, more: &ArrayVec<u8, 5>)
-    requires { array_vec_len bytes.old ≤ 11 }
-    ensures value { bytes.new.items ≡ bytes.old.items ++ more.now.items }
-    ensures len { array_vec_len bytes.new ≤ array_vec_len bytes.old + 5 }
-{
-    let _fits = bytes.try_extend_from_slice(more.as_slice());
 }
 
 /// The stream of a list of indices below 2^24, three to a triangle (EXT_meshopt_compression, mode 1, version 1).
@@ -171,9 +163,13 @@ pub fn encode_triangles(alloc: Global, indices: &[u32]) -> Result<Vec<u8>, NoMem
     let mut behind = Vec::new(alloc);
     bytes.push(0xE1)?;
     'triangles: for k in 0..indices.len() / 3 {
-        let (code, more) = encoder.piece(indices[3 * k], indices[3 * k + 1], indices[3 * k + 2]);
+        let (code, auxiliary) = encoder.piece(
+            indices[3 * k],
+            indices[3 * k + 1],
+            indices[3 * k + 2],
+        );
         bytes.push(code)?;
-        behind.extend_from_slice(more.as_slice())?;
+        auxiliary.append_to(&mut behind)?;
     }
     behind.extend_from_slice(&CODEAUX)?;
     bytes.extend_from_slice(&behind)?;

@@ -4,6 +4,7 @@
 //! list of indices below 2^24, and that stream means the same triangles in the same order.
 #![tactic(auto)]
 
+mod auxiliary;
 mod counters;
 mod cursor;
 mod decoder;

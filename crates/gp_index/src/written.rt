@@ -4,15 +4,14 @@ ghost use Rattle.gp_groups.specs.WrittenTriangles.{as_explicit, as_moved, as_nex
 ghost use Rattle.gp_index.specs.Encoding.{InRange, corner_of, counted};
 
 use crate::counters::Counters;
-use arrayvec::ArrayVec;
 use gp_queues::VertexQueue;
-use gp_sequence::{write_varint, zigzag_difference};
+use gp_sequence::zigzag_difference;
 
-// The half of a byte that tells a corner, its auxiliary bytes, and the numbers behind it.
-#[derive(Drop)]
+// The half of a byte that tells a corner, the value of its varint, if it has one, and the numbers behind it.
+#[derive(Clone, Copy)]
 pub struct Written {
     pub half: u8,
-    pub bytes: ArrayVec<u8, 5>,
+    pub explicit: Option<u32>,
     pub counters: Counters,
 }
 
@@ -79,7 +78,7 @@ fn write_next(at: Counters) -> Written
 {
     Written {
         half: 0,
-        bytes: ArrayVec::new(),
+        explicit: None,
         counters: Counters {
             next: at.next + 1,
             last: at.last,
@@ -95,7 +94,7 @@ fn write_queued(half: u8, at: Counters) -> Written
 {
     Written {
         half,
-        bytes: ArrayVec::new(),
+        explicit: None,
         counters: at,
     }
 }
@@ -108,7 +107,7 @@ fn write_moved(half: u8, vertex: u32, at: Counters) -> Written
 {
     Written {
         half,
-        bytes: ArrayVec::new(),
+        explicit: None,
         counters: Counters {
             next: at.next,
             last: vertex,
@@ -126,7 +125,7 @@ fn write_explicit(vertex: u32, at: Counters) -> Written
 {
     Written {
         half: 15,
-        bytes: write_varint(zigzag_difference(at.last, vertex)),
+        explicit: Some(zigzag_difference(at.last, vertex)),
         counters: Counters {
             next: at.next,
             last: vertex,

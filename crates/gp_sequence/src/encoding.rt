@@ -5,7 +5,7 @@ ghost use Rattle.gp_groups.specs.Sequence.{le_bytes, seq};
 ghost use Rattle.gp_groups.specs.WrittenSequence.{seqw};
 
 use crate::in_use::InUse;
-use crate::varints::write_varint;
+use crate::varints::append_varint;
 use gp_host::NoMemory;
 use std::alloc::Global;
 
@@ -17,7 +17,7 @@ pub fn encode_sequence(alloc: Global, indices: &[u32]) -> Result<Vec<u8>, NoMemo
     ensures read_back { IfOk result (λ bytes. seq bytes.items (length indices.now) 4 ≡ Ok (flat_map (le_bytes 4) indices.now)) }
     ensures read_back_narrow { All (λ index. index ≤ 65535) indices.now → IfOk result (λ bytes. seq bytes.items (length indices.now) 2 ≡ Ok (flat_map (le_bytes 2) indices.now)) }
 {
-    let mut bytes = Vec::new(alloc);
+    let mut bytes = Vec::with_capacity(alloc, indices.len())?;
     bytes.push(0xD1)?;
     let mut baselines = InUse {
         number: 0,
@@ -26,7 +26,7 @@ pub fn encode_sequence(alloc: Global, indices: &[u32]) -> Result<Vec<u8>, NoMemo
     };
     'indices: for k in 0..indices.len() {
         let value = baselines.next_value(indices[k]);
-        bytes.extend_from_slice(write_varint(value).as_slice())?;
+        append_varint(&mut bytes, value)?;
     }
     bytes.extend_from_slice(&[0; 4])?;
     Ok(bytes)

@@ -17,5 +17,5 @@ mod zigzag;
 pub use decoding::decode_sequence;
 pub use encoding::encode_sequence;
 pub use place::put_index;
-pub use varints::{read_varint, write_varint};
+pub use varints::{append_varint, read_varint, write_varint};
 pub use zigzag::{unzigzag32, zigzag_difference};

@@ -1,9 +1,10 @@
 // Varints, read and written.
-ghost use Rattle.std.specs.Prelude.{◌≡◌, ℕ, ◌≤◌, List, ◌++◌, length, IfOk, Ok};
+ghost use Rattle.std.specs.Prelude.{◌≡◌, ℕ, ◌≤◌, List, ◌++◌, length, IfOk, OnOk, Ok};
 ghost use Rattle.gp_groups.specs.Varint.{spelled, varint};
 
 use arrayvec::ArrayVec;
 use gp_groups::StreamFault;
+use gp_host::NoMemory;
 
 /// The value of the varint at the front and how many bytes it takes (EXT_meshopt_compression, modes 1 and 2).
 /// Longer spellings of a value are read. `Short` where the bytes run out, `Varint` where the fifth byte is over 15.
@@ -46,4 +47,17 @@ pub fn write_varint(value: u32) -> ArrayVec<u8, 5>
     }
     bytes.push(rest as u8);
     bytes
+}
+
+/// Appends the shortest varint of a value, as `write_varint` (EXT_meshopt_compression, modes 1 and 2). It fails only for want of memory.
+pub fn append_varint(bytes: &mut Vec<u8>, value: u32) -> Result<(), NoMemory>
+    ensures { OnOk result (bytes.new.items ≡ bytes.old.items ++ spelled value) }
+{
+    let mut rest = value;
+    'digits: while rest >= 128 {
+        bytes.push((128 + rest % 128) as u8)?;
+        rest /= 128;
+    }
+    bytes.push(rest as u8)?;
+    Ok(())
 }

@@ -22,9 +22,6 @@ pub fn zigzag_difference(base: u32, index: u32) -> u32
     ensures inverse { (base + difference result) % 2 ^ 32 ≡ index }
     ensures small { result < 2 ^ 31 }
 {
-    if base <= index {
-        2 * (index - base)
-    } else {
-        2 * (base - index) - 1
-    }
+    // Without a branch, since either sign is as likely.
+    2 * base.abs_diff(index) - u32::from(index < base)
 }

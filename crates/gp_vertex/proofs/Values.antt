@@ -50,6 +50,13 @@ pub map_twice : {A B C : Type 0} → (f : B → C) (g : A → B) (xs : List A) �
 map_twice f g [] = refl
 map_twice {A} {B} {C} f g (x ∷ xs) = ap (λ (l : List C). f (g x) ∷ l) (map_twice f g xs)
 
+-- a list of 256 whose values are those of another by f
+pub each_of : (f : ℕ → ℕ) (xs ys : List ℕ) → length xs ≡ 256 → length ys ≡ 256 → f 0 ≡ 0 → ((j : ℕ) → j < 256 → get_or ys j 0 ≡ f (get_or xs j 0)) → (j : ℕ) → get_or ys j 0 ≡ f (get_or xs j 0)
+each_of f xs ys x y none each j = elim (cases_lt j 256) [
+  | inl h ↦ each j h
+  | inr h ↦ get_or_past ys j 0 (omega (arith, h, y)) ∙ sym (ap f (get_or_past xs j 0 (omega (arith, h, x))) ∙ none)
+]
+
 -- the modes of the groups, and 0 past the last
 pub modes_filled : (group : ℕ → List ℕ) (modes : List ℕ) (n : ℕ) → ((j : ℕ) → j < n → get_or modes j 0 ≡ best (group j)) → ((j : ℕ) → n ≤ j → get_or modes j 0 ≡ 0) → (k : ℕ) → get_or modes k 0 ≡ get_or (map best (map group (range_with_len 0 n))) k 0
 modes_filled group modes n each none k =
@@ -150,23 +157,24 @@ delta_is source stride p zero byte before delta value b a d v =
 delta_is source stride p (suc e) byte before delta value b a d v =
     rw (not_equal (suc e) 0 (λ x. absurd (omega (arith, x)))) (rw (d, b, a) at v)
 
--- a column that is filled up to an element
-pub column_none : (source : List ℕ) (stride p from j : ℕ) → get_or (replicate 256 0) j 0 ≡ value_at source stride p from 0 j
-column_none source stride p from j =
+-- a column that is filled up to an element with what f takes to the coded values
+pub column_none : (f : ℕ → ℕ) (source : List ℕ) (stride p from j : ℕ) → f 0 ≡ 0 → f (get_or (replicate 256 0) j 0) ≡ value_at source stride p from 0 j
+column_none f source stride p from j e =
     let none : nat_lt j 0 ≡ false = grind (arith, nat_tests) in
-    rw none (elim (cases_lt j 256) [ inl h ↦ get_or-replicate 256 j 0 0 h | inr h ↦ get_or_past (replicate 256 0) j 0 h ])
+    let zero_there : ◌≡◌ {A = ℕ} (get_or (replicate 256 0) j 0) 0 = elim (cases_lt j 256) [ inl h ↦ get_or-replicate 256 j 0 0 h | inr h ↦ get_or_past (replicate 256 0) j 0 h ] in
+    rw (none, zero_there) e
 
-pub column_more : (source column : List ℕ) (stride p from i value : ℕ) → i < length column → value ≡ coded_delta source stride p (from + i) → ((j : ℕ) → get_or column j 0 ≡ value_at source stride p from i j) → (j : ℕ) → get_or (set column i value) j 0 ≡ value_at source stride p from (i + 1) j
-column_more source column stride p from i value room is each j = elim (cases_order j i) [
-  | inl same ↦ (let here : nat_lt i (i + 1) ≡ true = grind (arith, nat_tests) in rw (same, here) (get_or-set_same column i value 0 room ∙ is))
+pub column_more : (f : ℕ → ℕ) (source column : List ℕ) (stride p from i value : ℕ) → i < length column → f value ≡ coded_delta source stride p (from + i) → ((j : ℕ) → f (get_or column j 0) ≡ value_at source stride p from i j) → (j : ℕ) → f (get_or (set column i value) j 0) ≡ value_at source stride p from (i + 1) j
+column_more f source column stride p from i value room is each j = elim (cases_order j i) [
+  | inl same ↦ (let here : nat_lt i (i + 1) ≡ true = grind (arith, nat_tests) in rw (same, here) (ap f (get_or-set_same column i value 0 room) ∙ is))
   | inr (inl soon) ↦
       (let now : nat_lt j (i + 1) ≡ true = grind (arith, nat_tests) in
       let was : nat_lt j i ≡ true = grind (arith, nat_tests) in
       let before = rw was at (each j) in
-      rw now (get_or-set_other column i j value 0 (λ e. absurd (omega (arith, e, soon))) ∙ before))
+      rw now (ap f (get_or-set_other column i j value 0 (λ e. absurd (omega (arith, e, soon)))) ∙ before))
   | inr (inr late) ↦
       (let now : nat_lt j (i + 1) ≡ false = grind (arith, nat_tests) in
       let was : nat_lt j i ≡ false = grind (arith, nat_tests) in
       let before = rw was at (each j) in
-      rw now (get_or-set_other column i j value 0 (λ e. absurd (omega (arith, e, late))) ∙ before))
+      rw now (ap f (get_or-set_other column i j value 0 (λ e. absurd (omega (arith, e, late)))) ∙ before))
 ]

@@ -3,7 +3,7 @@ ghost use Rattle.std.specs.Prelude.{◌≡◌, ℕ, ◌+◌, ◌*◌, ◌<◌, �
 ghost use Rattle.gp_groups.specs.Places.{byte_of};
 ghost use Rattle.gp_vertex.specs.Decoding.{running};
 
-use gp_groups::unzigzag8;
+use crate::zigzags::unzigzag_all;
 
 // Writes byte `place` of the elements, each the byte of the element before plus its delta, and answers the last.
 pub fn write_column(
@@ -21,9 +21,10 @@ pub fn write_column(
     ensures written { (i : ℕ) → i < elements → byte_of dest.new stride i place ≡ running start column.now (i + 1) }
     ensures kept { (i q : ℕ) → q < place → byte_of dest.new stride i q ≡ byte_of dest.old stride i q }
 {
+    let deltas = unzigzag_all(column);
     let mut value = start;
     'elements: for i in 0..elements {
-        value = value.wrapping_add(unzigzag8(column[i]));
+        value = value.wrapping_add(deltas[i]);
         dest[i * stride + place] = value;
     }
     value

@@ -10,6 +10,7 @@ mod stream;
 #[cfg(test)]
 mod tests;
 mod written;
+mod zigzags;
 
 pub use encoder::encode_attributes;
 pub use stream::decode_attributes;

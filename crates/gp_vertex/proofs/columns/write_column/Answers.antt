@@ -20,7 +20,7 @@ elements-preserved c =
     let i = c.elements.i in
     let apart = rows_apart i c.args.elements stride place 0 c.requires.place c.elements-test.true in
     let room : i * stride + place < length dest = omega (arith, apart, c.elements.invariant.sized) in
-    let next = running_more c.args.start c.elements.value c.unzigzag8-value.result i column (omega arith) c.elements.invariant.last c.unzigzag8-value.ensures.value in
+    let next = running_more c.args.start c.elements.value _ i column (omega arith) c.elements.invariant.last (c.unzigzag_all-deltas.ensures i) in
     record {
       last = next;
       written = written_more column dest c.args.start stride place i _ c.requires.place room next c.elements.invariant.written;

@@ -1,0 +1,45 @@
+// Attribute streams.
+ghost use Rattle.std.specs.Prelude.{◌≡◌, ◌*◌, ◌%◌, ◌≤◌, ◌↔◌, IsTrue, length};
+
+use crate::answers::{NO_SHAPE, answer_of, hand_out};
+use gp_vertex::{decode_attributes, encode_attributes};
+use std::alloc::Global;
+
+/// Decodes `count` elements of `stride` bytes each, as `gp_vertex::decode_attributes`.
+#[unsafe(no_mangle)]
+pub extern "C" fn gp_streams_c_decode_attributes(
+    bytes: &[u8],
+    count: usize,
+    stride: usize,
+    dest: &mut [u8],
+) -> u32 {
+    if has_shape(dest.len(), count, stride) {
+        answer_of(decode_attributes(bytes, count, stride, dest))
+    } else {
+        NO_SHAPE
+    }
+}
+
+/// Encodes `count` elements of `stride` bytes each, as `gp_vertex::encode_attributes`, and tells the stream's size.
+#[unsafe(no_mangle)]
+pub extern "C" fn gp_streams_c_encode_attributes(
+    alloc: Global,
+    source: &[u8],
+    count: usize,
+    stride: usize,
+    room: &mut [u8],
+    size: &mut usize,
+) -> u32 {
+    if has_shape(source.len(), count, stride) {
+        hand_out(encode_attributes(alloc, source, count, stride), room, size)
+    } else {
+        NO_SHAPE
+    }
+}
+
+// Whether so many bytes are `count` elements of a stride that an attribute stream may have.
+fn has_shape(len: usize, count: usize, stride: usize) -> bool
+    ensures { IsTrue result ↔ ((stride % 4 ≡ 0) × (4 ≤ stride) × (stride ≤ 256) × (len ≡ count * stride)) }
+{
+    stride % 4 == 0 && stride >= 4 && stride <= 256 && count.checked_mul(stride) == Some(len)
+}

@@ -1,0 +1,74 @@
+// Streams of indices and of triangles.
+ghost use Rattle.std.specs.Prelude.{◌≡◌, ◌*◌, ◌⊎◌, ◌↔◌, IsTrue};
+
+use crate::answers::{NO_SHAPE, answer_of, hand_out};
+use gp_index::{decode_triangles, encode_triangles};
+use gp_sequence::{decode_sequence, encode_sequence};
+use std::alloc::Global;
+
+/// Decodes `count` indices of two or four bytes each, as `gp_sequence::decode_sequence`.
+#[unsafe(no_mangle)]
+pub extern "C" fn gp_streams_c_decode_sequence(
+    bytes: &[u8],
+    count: usize,
+    stride: usize,
+    dest: &mut [u8],
+) -> u32 {
+    if has_shape(dest.len(), count, stride) {
+        answer_of(decode_sequence(bytes, count, stride, dest))
+    } else {
+        NO_SHAPE
+    }
+}
+
+/// Encodes indices below 2^30, as `gp_sequence::encode_sequence`, and tells the stream's size.
+#[unsafe(no_mangle)]
+pub extern "C" fn gp_streams_c_encode_sequence(
+    alloc: Global,
+    indices: &[u32],
+    room: &mut [u8],
+    size: &mut usize,
+) -> u32 {
+    if indices.iter().all(|index| *index < 1 << 30) {
+        hand_out(encode_sequence(alloc, indices), room, size)
+    } else {
+        NO_SHAPE
+    }
+}
+
+/// Decodes `count` indices of two or four bytes each, three to a triangle, as `gp_index::decode_triangles`.
+#[unsafe(no_mangle)]
+pub extern "C" fn gp_streams_c_decode_triangles(
+    bytes: &[u8],
+    count: usize,
+    stride: usize,
+    dest: &mut [u8],
+) -> u32 {
+    if has_shape(dest.len(), count, stride) && count % 3 == 0 {
+        answer_of(decode_triangles(bytes, count, stride, dest))
+    } else {
+        NO_SHAPE
+    }
+}
+
+/// Encodes indices below 2^24, three to a triangle, as `gp_index::encode_triangles`, and tells the stream's size.
+#[unsafe(no_mangle)]
+pub extern "C" fn gp_streams_c_encode_triangles(
+    alloc: Global,
+    indices: &[u32],
+    room: &mut [u8],
+    size: &mut usize,
+) -> u32 {
+    if indices.len() % 3 == 0 && indices.iter().all(|index| *index < 1 << 24) {
+        hand_out(encode_triangles(alloc, indices), room, size)
+    } else {
+        NO_SHAPE
+    }
+}
+
+// Whether so many bytes are `count` indices of two or four bytes each.
+fn has_shape(len: usize, count: usize, stride: usize) -> bool
+    ensures { IsTrue result ↔ (((stride ≡ 2) ⊎ (stride ≡ 4)) × (len ≡ count * stride)) }
+{
+    (stride == 2 || stride == 4) && count.checked_mul(stride) == Some(len)
+}
