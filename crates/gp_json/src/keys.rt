@@ -1,5 +1,5 @@
 // Whether the keys of each object differ.
-ghost use Rattle.std.specs.Prelude.{◌≡◌, ◌<◌, ◌↔◌, ◌++◌, ◌∷◌, ℕ, List, map, IsTrue, IsSorted, IfOk, OnOk};
+ghost use Rattle.std.specs.Prelude.{◌≡◌, ◌<◌, ◌↔◌, ◌++◌, ◌∷◌, ℕ, List, map, length, IsTrue, IsSorted, IfOk, OnOk};
 ghost use Rattle.std.specs.Str.{IsUtf8};
 ghost use Rattle.std.specs.Char.{digit_value};
 ghost use Rattle.std.specs.Char.Escape.{encode_utf16};
@@ -8,7 +8,7 @@ ghost use Rattle.std.specs.Cmp.Lexicographic.{slice_cmp};
 ghost use Rattle.gp_json.specs.Plain.{plain, plain_items, plain_entries};
 ghost use Rattle.gp_json.specs.Key.{units, units_from, escaped_unit};
 ghost use Rattle.gp_json.specs.Lexical.{Each};
-ghost use Rattle.gp_json.specs.Decoding.{place_of, Fits, IsPlainByte, ArePlain};
+ghost use Rattle.gp_json.specs.Decoding.{place_of, Fits, IsPlainByte, ArePlain, IsNewKey, sum_from, DoRise};
 ghost use Rattle.gp_json.specs.Sound.{keys, IsSpelled, AreItemsSpelled, AreMembersSpelled, AreDistinct, HasDistinctKeys, ItemsHaveDistinctKeys, MembersHaveDistinctKeys};
 
 use crate::tree::{Member, Tree};
@@ -22,6 +22,9 @@ pub(crate) enum Escape {
     Backslash,
     Hex(u32, u32),
 }
+
+// How many keys are compared two by two: for so many that is quicker than to sort them.
+const FEW: usize = 8;
 
 // Whether no object of a tree has two equal keys.
 #[cycle(distinct)]
@@ -87,8 +90,24 @@ fn are_keys_distinct(alloc: Global, members: &[Member]) -> Result<bool, AllocErr
     Ok(neighbours_differ(&decoded))
 }
 
-// ASCII without an escape stands for itself.
+// ASCII without an escape stands for itself. A few keys are compared two by two; of many, a number
+// is made of each, since numbers are sorted sooner than keys, and the keys are sorted where two
+// numbers are equal.
 fn are_plain_keys_distinct(alloc: Global, members: &[Member]) -> Result<bool, AllocError>
+    requires { ArePlain (plain_entries members.now) }
+    ensures { IfOk result (λ b. IsTrue b
+        ↔ AreDistinct (map units (keys (plain_entries members.now)))) }
+{
+    if members.len() <= FEW {
+        return Ok(are_few_keys_distinct(members));
+    }
+    if are_sums_distinct(alloc, members)? {
+        return Ok(true);
+    }
+    are_sorted_keys_distinct(alloc, members)
+}
+
+fn are_sorted_keys_distinct(alloc: Global, members: &[Member]) -> Result<bool, AllocError>
     requires { ArePlain (plain_entries members.now) }
     ensures { IfOk result (λ b. IsTrue b
         ↔ AreDistinct (map units (keys (plain_entries members.now)))) }
@@ -99,6 +118,68 @@ fn are_plain_keys_distinct(alloc: Global, members: &[Member]) -> Result<bool, Al
     }
     keys.sort_unstable();
     Ok(neighbour_strings_differ(&keys))
+}
+
+fn are_few_keys_distinct(members: &[Member]) -> bool
+    requires { ArePlain (plain_entries members.now) }
+    ensures { IsTrue result ↔ AreDistinct (map units (keys (plain_entries members.now))) }
+{
+    for at in 1..members.len() {
+        if !is_new_key(members, at) {
+            return false;
+        }
+    }
+    true
+}
+
+// Whether the key at this place differs from each before it.
+fn is_new_key(members: &[Member], at: usize) -> bool
+    requires { at < length members.now }
+    ensures { IsTrue result ↔ IsNewKey members.now at }
+{
+    let key = members[at].key.as_slice();
+    for before in 0..at {
+        if members[before].key.as_slice() == key {
+            return false;
+        }
+    }
+    true
+}
+
+// Whether the numbers that are made of the keys differ, and so do the keys.
+fn are_sums_distinct(alloc: Global, members: &[Member]) -> Result<bool, AllocError>
+    requires { ArePlain (plain_entries members.now) }
+    ensures { IfOk result (λ b. IsTrue b
+        → AreDistinct (map units (keys (plain_entries members.now)))) }
+{
+    let mut sums = Vec::new(alloc);
+    for member in members {
+        sums.push(sum_of(member.key.as_slice()))?;
+    }
+    sums.sort_unstable();
+    Ok(do_rise(&sums))
+}
+
+// A number made of a string (the hash FNV-1a of 64 bits, with another start).
+fn sum_of(string: &[u8]) -> u64
+    ensures { result ≡ sum_from 0 string.now }
+{
+    let mut sum = 0;
+    'bytes: for i in 0..string.len() {
+        sum = (sum ^ string[i] as u64).wrapping_mul(0x100_0000_01b3);
+    }
+    sum
+}
+
+fn do_rise(numbers: &[u64]) -> bool
+    ensures { IsTrue result → DoRise (length numbers.now) numbers.now }
+{
+    for at in 1..numbers.len() {
+        if numbers[at - 1] >= numbers[at] {
+            return false;
+        }
+    }
+    true
 }
 
 fn are_plain(members: &[Member]) -> bool
@@ -112,16 +193,22 @@ fn are_plain(members: &[Member]) -> bool
     true
 }
 
-// Whether a string is ASCII without an escape.
+// Whether a string is ASCII without an escape. No byte ends the loop early, so that it becomes
+// steps on vectors.
 fn is_plain(string: &[u8]) -> bool
     ensures { IsTrue result → Each IsPlainByte string.now }
 {
+    let mut plain = true;
     for i in 0..string.len() {
-        if string[i] >= 128 || string[i] == b'\\' {
-            return false;
-        }
+        plain &= is_plain_byte(string[i]);
     }
-    true
+    plain
+}
+
+fn is_plain_byte(x: u8) -> bool
+    ensures { IsTrue result ↔ IsPlainByte x }
+{
+    (x < 128) & (x != b'\\')
 }
 
 fn neighbour_strings_differ(keys: &[&[u8]]) -> bool
