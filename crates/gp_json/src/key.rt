@@ -1,5 +1,5 @@
 // Comparing keys by the 16-bit units that they stand for.
-ghost use Rattle.std.specs.Prelude.{◌≡◌, ◌↔◌, IsTrue};
+ghost use Rattle.std.specs.Prelude.{◌≡◌, ◌≢◌, ◌↔◌, IsTrue};
 ghost use Rattle.gp_json.specs.Key.{units};
 
 use crate::lexeme::Lexeme;
@@ -37,6 +37,9 @@ pub fn key_is(key: &Lexeme, name: &str) -> bool
 pub(crate) fn has_units(spelling: &[u8], name: &[u8]) -> bool
     ensures { IsTrue result ↔ (units spelling.now ≡ name.now) }
 {
+    if differ_at_first(spelling, name) {
+        return false;
+    }
     let mut left = Units::new(spelling);
     'bytes: for i in 0..name.len() {
         if left.next() != Some(name[i] as u32) {
@@ -44,4 +47,16 @@ pub(crate) fn has_units(spelling: &[u8], name: &[u8]) -> bool
         }
     }
     left.next().is_none()
+}
+
+// Whether the first bytes show that a spelled string has other units than these.
+#[tactic(auto, using(crate::proofs::PlainKeys::other_first))]
+fn differ_at_first(spelling: &[u8], name: &[u8]) -> bool
+    ensures { IsTrue result → units spelling.now ≢ name.now }
+{
+    !spelling.is_empty()
+        && !name.is_empty()
+        && spelling[0] < 128
+        && spelling[0] != b'\\'
+        && spelling[0] != name[0]
 }

@@ -6,6 +6,9 @@ ghost use Rattle.gp_json.specs.Reading.{IsNumberByte, HasHexDigits, EndsDigits, 
 // How many bytes of a string are tested at once: as many as the compiler tests in two vectors.
 const BLOCK: usize = 32;
 
+// How many bytes of a string are tested before blocks are.
+const NEAR: usize = 16;
+
 fn is_blank(x: u8) -> bool
     ensures { IsTrue result ↔ IsBlank x }
 {
@@ -138,18 +141,19 @@ fn blocks_len(text: &[u8]) -> usize
     at
 }
 
-// How many bytes that stand for themselves in a string stand in front.
+// How many bytes that stand for themselves in a string stand in front, or some of them: those of a
+// short string one by one, and blocks only behind them.
 fn unescaped_len(text: &[u8]) -> usize
     ensures within { result ≤ length text.now }
     ensures unescaped { Each IsUnescaped (take result text.now) }
 {
-    let start = blocks_len(text);
-    for i in start..text.len() {
+    let near = text.len().min(NEAR);
+    for i in 0..near {
         if !is_unescaped(text[i]) {
             return i;
         }
     }
-    text.len()
+    near + blocks_len(&text[near..])
 }
 
 // The length of the string in front of the first quote that ends one.
