@@ -1,12 +1,12 @@
 -- Distinct keys, member by member.
-use Rattle.std.proofs.Common.{◌≡◌, ℕ, ◌+◌, ◌<◌, zero, suc, List, [], ◌∷◌, ◌++◌, map, length, get_or, take, refl, sym, ap, ◌∙◌, subst, arith, rules}
+use Rattle.std.proofs.Common.{◌≡◌, ℕ, ◌+◌, ◌<◌, zero, suc, List, [], ◌∷◌, ◌++◌, map, length, get_or, take, refl, sym, ap, ap₂, ◌∙◌, subst, arith, rules}
 use Rattle.std.proofs.lemmas.List.{take_more}
 use Rattle.gp_json.specs.declared.tree.Tree.{Tree, the_lemmas}
 use Rattle.gp_json.specs.declared.tree.Member.{Member}
 use Rattle.gp_json.specs.Plain.{plain, plain_member, plain_items, plain_entries}
 use Rattle.gp_json.specs.Lexical.{IsString}
 use Rattle.gp_json.specs.Key.{units}
-use Rattle.gp_json.specs.Sound.{keys, IsSpelled, AreItemsSpelled, AreMembersSpelled, AreDistinct, HasDistinctKeys, ItemsHaveDistinctKeys, MembersHaveDistinctKeys}
+use Rattle.gp_json.specs.Sound.{keys, IsSpelled, AreItemsSpelled, AreMembersSpelled, HasDistinctKeys, ItemsHaveDistinctKeys, MembersHaveDistinctKeys}
 
 pub member_is : (m : Member) → plain_member m ≡ (m.key, plain m.value)
 member_is m = search (rules, the_lemmas)
@@ -58,10 +58,6 @@ key_units_push (x ∷ xs) m = ap (λ y. units (plain_member x).0 ∷ y) (key_uni
 pub key_units_more : (xs : List Member) (i : ℕ) (m : Member) → i < length xs → m ≡ get_or xs i m → key_units (take (i + 1) xs) ≡ key_units (take i xs) ++ units m.key ∷ []
 key_units_more xs i m h is = ap key_units (take_more xs i m h ∙ ap (λ u. take i xs ++ u ∷ []) (sym is)) ∙ key_units_push (take i xs) m ∙ ap (λ y. key_units (take i xs) ++ units y.0 ∷ []) (member_is m)
 
-length_key_units : (xs : List Member) → length (key_units xs) ≡ length xs
-length_key_units [] = refl
-length_key_units (x ∷ xs) = ap suc (length_key_units xs)
-
--- one key has no other to be equal to
-pub few_distinct : (xs : List Member) → length xs < 2 → AreDistinct (key_units xs)
-few_distinct xs few i j d h k = absurd (omega (arith, few, h, k, length_key_units xs))
+pub key_units_is : (xs : List Member) → key_units xs ≡ map (λ m. units m.key) xs
+key_units_is [] = refl
+key_units_is (x ∷ xs) = ap₂ (λ a b. units a ∷ b) (ap (λ y. y.0) (member_is x)) (key_units_is xs)

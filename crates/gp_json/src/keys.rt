@@ -8,9 +8,10 @@ ghost use Rattle.std.specs.Cmp.Lexicographic.{slice_cmp};
 ghost use Rattle.gp_json.specs.Plain.{plain, plain_items, plain_entries};
 ghost use Rattle.gp_json.specs.Key.{units, units_from, escaped_unit};
 ghost use Rattle.gp_json.specs.Lexical.{Each};
-ghost use Rattle.gp_json.specs.Decoding.{place_of, Fits, IsPlainByte, ArePlain, IsNewKey, sum_from, DoRise};
+ghost use Rattle.gp_json.specs.Decoding.{place_of, Fits, ArePlain, IsNewKey, sum_from, DoRise};
 ghost use Rattle.gp_json.specs.Sound.{keys, IsSpelled, AreItemsSpelled, AreMembersSpelled, AreDistinct, HasDistinctKeys, ItemsHaveDistinctKeys, MembersHaveDistinctKeys};
 
+use crate::key::{is_plain, same_key};
 use crate::tree::{Member, Tree};
 use std::alloc::{AllocError, Global};
 
@@ -70,14 +71,14 @@ fn members_have_distinct_keys(alloc: Global, members: &[Member]) -> Result<bool,
     Ok(true)
 }
 
-// The keys are sorted, so that no object takes quadratic time.
+// A few keys are compared two by two; many are sorted, so that no object takes quadratic time.
 fn are_keys_distinct(alloc: Global, members: &[Member]) -> Result<bool, AllocError>
     requires spelled { AreMembersSpelled (plain_entries members.now) }
     ensures { IfOk result (λ b. IsTrue b
         ↔ AreDistinct (map units (keys (plain_entries members.now)))) }
 {
-    if members.len() < 2 {
-        return Ok(true);
+    if members.len() <= FEW {
+        return Ok(are_few_keys_distinct(members));
     }
     if are_plain(members) {
         return are_plain_keys_distinct(alloc, members);
@@ -90,17 +91,13 @@ fn are_keys_distinct(alloc: Global, members: &[Member]) -> Result<bool, AllocErr
     Ok(neighbours_differ(&decoded))
 }
 
-// ASCII without an escape stands for itself. A few keys are compared two by two; of many, a number
-// is made of each, since numbers are sorted sooner than keys, and the keys are sorted where two
-// numbers are equal.
+// ASCII without an escape stands for itself. A number is made of each key, since numbers are sorted
+// sooner than keys, and the keys are sorted where two numbers are equal.
 fn are_plain_keys_distinct(alloc: Global, members: &[Member]) -> Result<bool, AllocError>
     requires { ArePlain (plain_entries members.now) }
     ensures { IfOk result (λ b. IsTrue b
         ↔ AreDistinct (map units (keys (plain_entries members.now)))) }
 {
-    if members.len() <= FEW {
-        return Ok(are_few_keys_distinct(members));
-    }
     if are_sums_distinct(alloc, members)? {
         return Ok(true);
     }
@@ -121,7 +118,6 @@ fn are_sorted_keys_distinct(alloc: Global, members: &[Member]) -> Result<bool, A
 }
 
 fn are_few_keys_distinct(members: &[Member]) -> bool
-    requires { ArePlain (plain_entries members.now) }
     ensures { IsTrue result ↔ AreDistinct (map units (keys (plain_entries members.now))) }
 {
     for at in 1..members.len() {
@@ -137,9 +133,8 @@ fn is_new_key(members: &[Member], at: usize) -> bool
     requires { at < length members.now }
     ensures { IsTrue result ↔ IsNewKey members.now at }
 {
-    let key = members[at].key.as_slice();
     for before in 0..at {
-        if members[before].key.as_slice() == key {
+        if same_key(&members[before].key, &members[at].key) {
             return false;
         }
     }
@@ -191,24 +186,6 @@ fn are_plain(members: &[Member]) -> bool
         }
     }
     true
-}
-
-// Whether a string is ASCII without an escape. No byte ends the loop early, so that it becomes
-// steps on vectors.
-fn is_plain(string: &[u8]) -> bool
-    ensures { IsTrue result → Each IsPlainByte string.now }
-{
-    let mut plain = true;
-    for i in 0..string.len() {
-        plain &= is_plain_byte(string[i]);
-    }
-    plain
-}
-
-fn is_plain_byte(x: u8) -> bool
-    ensures { IsTrue result ↔ IsPlainByte x }
-{
-    (x < 128) & (x != b'\\')
 }
 
 fn neighbour_strings_differ(keys: &[&[u8]]) -> bool

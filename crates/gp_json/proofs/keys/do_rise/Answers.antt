@@ -1,4 +1,4 @@
-use Rattle.std.proofs.Common.{◌≡◌, ◌<◌, ◌-◌, slice_index_or, get_or, arith}
+use Rattle.std.proofs.Common.{◌<◌, ◌-◌, get_or, arith}
 use Rattle.gp_json.proofs.SortedKeys.{rise_more}
 use Rattle.gp_json.proofs.keys.do_rise.Goals as goal
 
