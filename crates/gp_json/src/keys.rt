@@ -147,7 +147,7 @@ fn are_sums_distinct(alloc: Global, members: &[Member]) -> Result<bool, AllocErr
     ensures { IfOk result (λ b. IsTrue b
         → AreDistinct (map units (keys (plain_entries members.now)))) }
 {
-    let mut sums = Vec::new(alloc);
+    let mut sums = Vec::with_capacity(alloc, members.len())?;
     for member in members {
         sums.push(sum_of(member.key.as_slice()))?;
     }
