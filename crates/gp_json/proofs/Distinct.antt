@@ -11,11 +11,6 @@ use Rattle.gp_json.specs.Sound.{keys, IsSpelled, AreItemsSpelled, AreMembersSpel
 pub member_is : (m : Member) → plain_member m ≡ (m.key, plain m.value)
 member_is m = search (rules, the_lemmas)
 
-pub item_spelled : (xs : List Tree) (i : ℕ) (t : Tree) → i < length xs → t ≡ get_or xs i t → AreItemsSpelled (plain_items xs) → IsSpelled (plain t)
-item_spelled [] i t h is s = absurd (omega (arith, h))
-item_spelled (x ∷ xs) zero t h is s = subst (λ y. IsSpelled (plain y)) (sym is) s.0
-item_spelled (x ∷ xs) (suc i) t h is s = item_spelled xs i t (omega (arith, h)) is s.1
-
 pub item_distinct : (xs : List Tree) (i : ℕ) (t : Tree) → i < length xs → t ≡ get_or xs i t → ItemsHaveDistinctKeys (plain_items xs) → HasDistinctKeys (plain t)
 item_distinct [] i t h is s = absurd (omega (arith, h))
 item_distinct (x ∷ xs) zero t h is s = subst (λ y. HasDistinctKeys (plain y)) (sym is) s.0
@@ -27,14 +22,6 @@ items_push (x ∷ xs) t s h = (s.0, items_push xs t s.1 h)
 
 pub items_more : (xs : List Tree) (i : ℕ) (t : Tree) → i < length xs → t ≡ get_or xs i t → ItemsHaveDistinctKeys (plain_items (take i xs)) → HasDistinctKeys (plain t) → ItemsHaveDistinctKeys (plain_items (take (i + 1) xs))
 items_more xs i t h is s k = subst (λ y. ItemsHaveDistinctKeys (plain_items y)) (sym (take_more xs i t h ∙ ap (λ u. take i xs ++ u ∷ []) (sym is))) (items_push (take i xs) t s k)
-
-pub member_spelled : (xs : List Member) (i : ℕ) (m : Member) → i < length xs → m ≡ get_or xs i m → AreMembersSpelled (plain_entries xs) → IsString m.key × IsSpelled (plain m.value)
-member_spelled [] i t h is s = absurd (omega (arith, h))
-member_spelled (x ∷ xs) zero t h is s = subst (λ y. IsString y.0 × IsSpelled y.1) (ap plain_member (sym is) ∙ member_is t) (s.0, s.1)
-member_spelled (x ∷ xs) (suc i) t h is s = member_spelled xs i t (omega (arith, h)) is s.2
-
-pub value_spelled : (xs : List Member) (i : ℕ) (m : Member) → i < length xs → m ≡ get_or xs i m → AreMembersSpelled (plain_entries xs) → IsSpelled (plain m.value)
-value_spelled xs i m h is s = (member_spelled xs i m h is s).1
 
 pub member_distinct : (xs : List Member) (i : ℕ) (m : Member) → i < length xs → m ≡ get_or xs i m → MembersHaveDistinctKeys (plain_entries xs) → HasDistinctKeys (plain m.value)
 member_distinct [] i t h is s = absurd (omega (arith, h))
