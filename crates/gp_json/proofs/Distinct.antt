@@ -4,9 +4,8 @@ use Rattle.std.proofs.lemmas.List.{take_more}
 use Rattle.gp_json.specs.declared.tree.Tree.{Tree, the_lemmas}
 use Rattle.gp_json.specs.declared.tree.Member.{Member}
 use Rattle.gp_json.specs.Plain.{plain, plain_member, plain_items, plain_entries}
-use Rattle.gp_json.specs.Lexical.{IsString}
 use Rattle.gp_json.specs.Key.{units}
-use Rattle.gp_json.specs.Sound.{keys, IsSpelled, AreItemsSpelled, AreMembersSpelled, HasDistinctKeys, ItemsHaveDistinctKeys, MembersHaveDistinctKeys}
+use Rattle.gp_json.specs.Sound.{keys, HasDistinctKeys, ItemsHaveDistinctKeys, MembersHaveDistinctKeys}
 
 pub member_is : (m : Member) → plain_member m ≡ (m.key, plain m.value)
 member_is m = search (rules, the_lemmas)
