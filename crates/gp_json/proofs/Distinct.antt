@@ -1,20 +1,14 @@
 -- Distinct keys, member by member.
-use Rattle.std.proofs.Common.{◌≡◌, ℕ, ◌+◌, ◌<◌, zero, suc, List, [], ◌∷◌, ◌++◌, map, length, get_or, take, refl, sym, ap, ◌∙◌, subst, arith, rules}
+use Rattle.std.proofs.Common.{◌≡◌, ℕ, ◌+◌, ◌<◌, zero, suc, List, [], ◌∷◌, ◌++◌, map, length, get_or, take, refl, sym, ap, ap₂, ◌∙◌, subst, arith, rules}
 use Rattle.std.proofs.lemmas.List.{take_more}
 use Rattle.gp_json.specs.declared.tree.Tree.{Tree, the_lemmas}
 use Rattle.gp_json.specs.declared.tree.Member.{Member}
 use Rattle.gp_json.specs.Plain.{plain, plain_member, plain_items, plain_entries}
-use Rattle.gp_json.specs.Lexical.{IsString}
 use Rattle.gp_json.specs.Key.{units}
-use Rattle.gp_json.specs.Sound.{keys, IsSpelled, AreItemsSpelled, AreMembersSpelled, AreDistinct, HasDistinctKeys, ItemsHaveDistinctKeys, MembersHaveDistinctKeys}
+use Rattle.gp_json.specs.Sound.{keys, HasDistinctKeys, ItemsHaveDistinctKeys, MembersHaveDistinctKeys}
 
 pub member_is : (m : Member) → plain_member m ≡ (m.key, plain m.value)
 member_is m = search (rules, the_lemmas)
-
-pub item_spelled : (xs : List Tree) (i : ℕ) (t : Tree) → i < length xs → t ≡ get_or xs i t → AreItemsSpelled (plain_items xs) → IsSpelled (plain t)
-item_spelled [] i t h is s = absurd (omega (arith, h))
-item_spelled (x ∷ xs) zero t h is s = subst (λ y. IsSpelled (plain y)) (sym is) s.0
-item_spelled (x ∷ xs) (suc i) t h is s = item_spelled xs i t (omega (arith, h)) is s.1
 
 pub item_distinct : (xs : List Tree) (i : ℕ) (t : Tree) → i < length xs → t ≡ get_or xs i t → ItemsHaveDistinctKeys (plain_items xs) → HasDistinctKeys (plain t)
 item_distinct [] i t h is s = absurd (omega (arith, h))
@@ -27,14 +21,6 @@ items_push (x ∷ xs) t s h = (s.0, items_push xs t s.1 h)
 
 pub items_more : (xs : List Tree) (i : ℕ) (t : Tree) → i < length xs → t ≡ get_or xs i t → ItemsHaveDistinctKeys (plain_items (take i xs)) → HasDistinctKeys (plain t) → ItemsHaveDistinctKeys (plain_items (take (i + 1) xs))
 items_more xs i t h is s k = subst (λ y. ItemsHaveDistinctKeys (plain_items y)) (sym (take_more xs i t h ∙ ap (λ u. take i xs ++ u ∷ []) (sym is))) (items_push (take i xs) t s k)
-
-pub member_spelled : (xs : List Member) (i : ℕ) (m : Member) → i < length xs → m ≡ get_or xs i m → AreMembersSpelled (plain_entries xs) → IsString m.key × IsSpelled (plain m.value)
-member_spelled [] i t h is s = absurd (omega (arith, h))
-member_spelled (x ∷ xs) zero t h is s = subst (λ y. IsString y.0 × IsSpelled y.1) (ap plain_member (sym is) ∙ member_is t) (s.0, s.1)
-member_spelled (x ∷ xs) (suc i) t h is s = member_spelled xs i t (omega (arith, h)) is s.2
-
-pub value_spelled : (xs : List Member) (i : ℕ) (m : Member) → i < length xs → m ≡ get_or xs i m → AreMembersSpelled (plain_entries xs) → IsSpelled (plain m.value)
-value_spelled xs i m h is s = (member_spelled xs i m h is s).1
 
 pub member_distinct : (xs : List Member) (i : ℕ) (m : Member) → i < length xs → m ≡ get_or xs i m → MembersHaveDistinctKeys (plain_entries xs) → HasDistinctKeys (plain m.value)
 member_distinct [] i t h is s = absurd (omega (arith, h))
@@ -58,10 +44,6 @@ key_units_push (x ∷ xs) m = ap (λ y. units (plain_member x).0 ∷ y) (key_uni
 pub key_units_more : (xs : List Member) (i : ℕ) (m : Member) → i < length xs → m ≡ get_or xs i m → key_units (take (i + 1) xs) ≡ key_units (take i xs) ++ units m.key ∷ []
 key_units_more xs i m h is = ap key_units (take_more xs i m h ∙ ap (λ u. take i xs ++ u ∷ []) (sym is)) ∙ key_units_push (take i xs) m ∙ ap (λ y. key_units (take i xs) ++ units y.0 ∷ []) (member_is m)
 
-length_key_units : (xs : List Member) → length (key_units xs) ≡ length xs
-length_key_units [] = refl
-length_key_units (x ∷ xs) = ap suc (length_key_units xs)
-
--- one key has no other to be equal to
-pub few_distinct : (xs : List Member) → length xs < 2 → AreDistinct (key_units xs)
-few_distinct xs few i j d h k = absurd (omega (arith, few, h, k, length_key_units xs))
+pub key_units_is : (xs : List Member) → key_units xs ≡ map (λ m. units m.key) xs
+key_units_is [] = refl
+key_units_is (x ∷ xs) = ap₂ (λ a b. units a ∷ b) (ap (λ y. y.0) (member_is x)) (key_units_is xs)

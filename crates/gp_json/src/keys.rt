@@ -1,32 +1,23 @@
 // Whether the keys of each object differ.
-ghost use Rattle.std.specs.Prelude.{◌≡◌, ◌<◌, ◌↔◌, ◌++◌, ◌∷◌, ℕ, List, map, IsTrue, IsSorted, IfOk, OnOk};
-ghost use Rattle.std.specs.Str.{IsUtf8};
-ghost use Rattle.std.specs.Char.{digit_value};
-ghost use Rattle.std.specs.Char.Escape.{encode_utf16};
+ghost use Rattle.std.specs.Prelude.{◌≡◌, ◌<◌, ◌↔◌, map, length, IsTrue, IsSorted, IfOk};
 ghost use Rattle.std.specs.Ordering.{nat_cmp};
 ghost use Rattle.std.specs.Cmp.Lexicographic.{slice_cmp};
 ghost use Rattle.gp_json.specs.Plain.{plain, plain_items, plain_entries};
-ghost use Rattle.gp_json.specs.Key.{units, units_from, escaped_unit};
-ghost use Rattle.gp_json.specs.Lexical.{Each};
-ghost use Rattle.gp_json.specs.Decoding.{place_of, Fits, IsPlainByte, ArePlain};
-ghost use Rattle.gp_json.specs.Sound.{keys, IsSpelled, AreItemsSpelled, AreMembersSpelled, AreDistinct, HasDistinctKeys, ItemsHaveDistinctKeys, MembersHaveDistinctKeys};
+ghost use Rattle.gp_json.specs.Key.{units};
+ghost use Rattle.gp_json.specs.Decoding.{ArePlain, IsNewKey, sum_from, DoRise};
+ghost use Rattle.gp_json.specs.Sound.{keys, AreDistinct, HasDistinctKeys, ItemsHaveDistinctKeys, MembersHaveDistinctKeys};
 
+use crate::key::{is_plain, same_key};
 use crate::tree::{Member, Tree};
+use crate::units::Units;
 use std::alloc::{AllocError, Global};
 
-// Where a character of a string stands: outside an escape, after a backslash, or before the last
-// hex digits of an escape, so many and one more, where those before them have this value.
-#[derive(Clone, Copy, Drop)]
-pub(crate) enum Escape {
-    Outside,
-    Backslash,
-    Hex(u32, u32),
-}
+// How many keys are compared two by two: for so many that is quicker than to sort them.
+const FEW: usize = 8;
 
 // Whether no object of a tree has two equal keys.
 #[cycle(distinct)]
 pub(crate) fn has_distinct_keys(alloc: Global, tree: &Tree) -> Result<bool, AllocError>
-    requires spelled { IsSpelled (plain tree.now) }
     ensures { IfOk result (λ b. IsTrue b ↔ HasDistinctKeys (plain tree.now)) }
 {
     match tree {
@@ -43,7 +34,6 @@ pub(crate) fn has_distinct_keys(alloc: Global, tree: &Tree) -> Result<bool, Allo
 
 #[cycle(distinct)]
 fn items_have_distinct_keys(alloc: Global, items: &[Tree]) -> Result<bool, AllocError>
-    requires spelled { AreItemsSpelled (plain_items items.now) }
     ensures { IfOk result (λ b. IsTrue b ↔ ItemsHaveDistinctKeys (plain_items items.now)) }
 {
     for item in items {
@@ -56,7 +46,6 @@ fn items_have_distinct_keys(alloc: Global, items: &[Tree]) -> Result<bool, Alloc
 
 #[cycle(distinct)]
 fn members_have_distinct_keys(alloc: Global, members: &[Member]) -> Result<bool, AllocError>
-    requires spelled { AreMembersSpelled (plain_entries members.now) }
     ensures { IfOk result (λ b. IsTrue b ↔ MembersHaveDistinctKeys (plain_entries members.now)) }
 {
     for member in members {
@@ -67,14 +56,13 @@ fn members_have_distinct_keys(alloc: Global, members: &[Member]) -> Result<bool,
     Ok(true)
 }
 
-// The keys are sorted, so that no object takes quadratic time.
+// A few keys are compared two by two; many are sorted, so that no object takes quadratic time.
 fn are_keys_distinct(alloc: Global, members: &[Member]) -> Result<bool, AllocError>
-    requires spelled { AreMembersSpelled (plain_entries members.now) }
     ensures { IfOk result (λ b. IsTrue b
         ↔ AreDistinct (map units (keys (plain_entries members.now)))) }
 {
-    if members.len() < 2 {
-        return Ok(true);
+    if members.len() <= FEW {
+        return Ok(are_few_keys_distinct(members));
     }
     if are_plain(members) {
         return are_plain_keys_distinct(alloc, members);
@@ -87,8 +75,20 @@ fn are_keys_distinct(alloc: Global, members: &[Member]) -> Result<bool, AllocErr
     Ok(neighbours_differ(&decoded))
 }
 
-// ASCII without an escape stands for itself.
+// ASCII without an escape stands for itself. A number is made of each key, since numbers are sorted
+// sooner than keys, and the keys are sorted where two numbers are equal.
 fn are_plain_keys_distinct(alloc: Global, members: &[Member]) -> Result<bool, AllocError>
+    requires { ArePlain (plain_entries members.now) }
+    ensures { IfOk result (λ b. IsTrue b
+        ↔ AreDistinct (map units (keys (plain_entries members.now)))) }
+{
+    if are_sums_distinct(alloc, members)? {
+        return Ok(true);
+    }
+    are_sorted_keys_distinct(alloc, members)
+}
+
+fn are_sorted_keys_distinct(alloc: Global, members: &[Member]) -> Result<bool, AllocError>
     requires { ArePlain (plain_entries members.now) }
     ensures { IfOk result (λ b. IsTrue b
         ↔ AreDistinct (map units (keys (plain_entries members.now)))) }
@@ -101,23 +101,71 @@ fn are_plain_keys_distinct(alloc: Global, members: &[Member]) -> Result<bool, Al
     Ok(neighbour_strings_differ(&keys))
 }
 
-fn are_plain(members: &[Member]) -> bool
-    ensures { IsTrue result → ArePlain (plain_entries members.now) }
+fn are_few_keys_distinct(members: &[Member]) -> bool
+    ensures { IsTrue result ↔ AreDistinct (map units (keys (plain_entries members.now))) }
 {
-    for member in members {
-        if !is_plain(member.key.as_slice()) {
+    for at in 1..members.len() {
+        if !is_new_key(members, at) {
             return false;
         }
     }
     true
 }
 
-// Whether a string is ASCII without an escape.
-fn is_plain(string: &[u8]) -> bool
-    ensures { IsTrue result → Each IsPlainByte string.now }
+// Whether the key at this place differs from each before it.
+fn is_new_key(members: &[Member], at: usize) -> bool
+    requires { at < length members.now }
+    ensures { IsTrue result ↔ IsNewKey members.now at }
 {
-    for i in 0..string.len() {
-        if string[i] >= 128 || string[i] == b'\\' {
+    for before in 0..at {
+        if same_key(&members[before].key, &members[at].key) {
+            return false;
+        }
+    }
+    true
+}
+
+// Whether the numbers that are made of the keys differ, and so do the keys.
+fn are_sums_distinct(alloc: Global, members: &[Member]) -> Result<bool, AllocError>
+    requires { ArePlain (plain_entries members.now) }
+    ensures { IfOk result (λ b. IsTrue b
+        → AreDistinct (map units (keys (plain_entries members.now)))) }
+{
+    let mut sums = Vec::with_capacity(alloc, members.len())?;
+    for member in members {
+        sums.push(sum_of(member.key.as_slice()))?;
+    }
+    sums.sort_unstable();
+    Ok(do_rise(&sums))
+}
+
+// A number made of a string (the hash FNV-1a of 64 bits, with another start).
+fn sum_of(string: &[u8]) -> u64
+    ensures { result ≡ sum_from 0 string.now }
+{
+    let mut sum = 0;
+    'bytes: for i in 0..string.len() {
+        sum = (sum ^ string[i] as u64).wrapping_mul(0x100_0000_01b3);
+    }
+    sum
+}
+
+fn do_rise(numbers: &[u64]) -> bool
+    ensures { IsTrue result → DoRise (length numbers.now) numbers.now }
+{
+    for at in 1..numbers.len() {
+        if numbers[at - 1] >= numbers[at] {
+            return false;
+        }
+    }
+    true
+}
+
+fn are_plain(members: &[Member]) -> bool
+    ensures { IsTrue result → ArePlain (plain_entries members.now) }
+{
+    for member in members {
+        if !is_plain(member.key.as_slice()) {
             return false;
         }
     }
@@ -150,85 +198,14 @@ fn neighbours_differ(keys: &[Vec<u32>]) -> bool
 
 // The units of a string.
 fn decode(alloc: Global, string: &[u8]) -> Result<Vec<u32>, AllocError>
-    requires { IsUtf8 string.now }
     ensures { IfOk result (λ v. v.items ≡ units string.now) }
 {
-    let text = unsafe { std::str::from_utf8_unchecked(string) };
     let mut out = Vec::new(alloc);
-    let mut escape = Escape::Outside;
-    for c in text.chars() {
-        escape = decode_char(&mut out, escape, c)?;
-    }
-    Ok(out)
-}
-
-// Decodes a character, and says where the next one stands.
-fn decode_char(out: &mut Vec<u32>, escape: Escape, c: char) -> Result<Escape, AllocError>
-    requires { Fits escape }
-    ensures fits { IfOk result (λ e. Fits e) }
-    ensures units { IfOk result (λ e. (rest : List ℕ)
-        → out.old.items ++ units_from (place_of escape) (c ∷ rest)
-        ≡ out.new.items ++ units_from (place_of e) rest) }
-{
-    match escape {
-        Escape::Outside => {
-            if c == '\\' {
-                return Ok(Escape::Backslash);
-            }
-            put_utf16(out, c)?;
-            Ok(Escape::Outside)
-        }
-        Escape::Backslash => {
-            if c == 'u' {
-                return Ok(Escape::Hex(3, 0));
-            }
-            out.push(escaped_unit(c as u32))?;
-            Ok(Escape::Outside)
-        }
-        Escape::Hex(left, before) => {
-            let value = before * 16 + digit_value(c);
-            if left == 0 {
-                out.push(value)?;
-                return Ok(Escape::Outside);
-            }
-            Ok(Escape::Hex(left - 1, value))
-        }
-    }
-}
-
-fn put_utf16(out: &mut Vec<u32>, c: char) -> Result<(), AllocError>
-    ensures { OnOk result (out.new.items ≡ out.old.items ++ encode_utf16 c) }
-{
-    let code = c as u32;
-    if code < 0x1_0000 {
-        out.push(code)?;
-        return Ok(());
-    }
-    out.push(0xD800 + (code - 0x1_0000) / 0x400)?;
-    out.push(0xDC00 + (code - 0x1_0000) % 0x400)?;
-    Ok(())
-}
-
-// The value of a letter or digit in the greatest base, and 36 for all else.
-fn digit_value(c: char) -> u32
-    ensures value { result ≡ digit_value c }
-    ensures within { result < 37 }
-{
-    match c.to_digit(36) {
-        Some(digit) => digit,
-        None => 36,
-    }
-}
-
-fn escaped_unit(x: u32) -> u32
-    ensures { result ≡ escaped_unit x }
-{
-    match x {
-        98 => 8,
-        102 => 12,
-        110 => 10,
-        114 => 13,
-        116 => 9,
-        _ => x,
+    let mut left = Units::new(string);
+    'units: loop {
+        let Some(unit) = left.next() else {
+            return Ok(out);
+        };
+        out.push(unit)?;
     }
 }

@@ -1,7 +1,13 @@
 // How long the white space, number or string is that a text begins with.
 ghost use Rattle.std.specs.Prelude.{◌≡◌, ◌<◌, ◌≤◌, ◌⊎◌, ◌↔◌, ℕ, ◌+◌, List, [], ◌∷◌, ◌++◌, length, take, drop, IsTrue, IfSome, MatchOption};
-ghost use Rattle.gp_json.specs.Lexical.{Each, IsBlank, IsDigit, IsDigits, IsEscaped, IsHexDigit, IsSpace, IsExp, IsNumber, IsChar, IsChars};
+ghost use Rattle.gp_json.specs.Lexical.{Each, IsBlank, IsDigit, IsDigits, IsEscaped, IsHexDigit, IsSpace, IsExp, IsNumber, IsUnescaped, IsChar, IsChars};
 ghost use Rattle.gp_json.specs.Reading.{IsNumberByte, HasHexDigits, EndsDigits, IsUnsigned, IsFraction, EndsSpace, EndsNumber, BeginsString, HasNone};
+
+// How many bytes of a string are tested at once: as many as the compiler tests in two vectors.
+const BLOCK: usize = 32;
+
+// How many bytes of a string are tested before blocks are.
+const NEAR: usize = 16;
 
 fn is_blank(x: u8) -> bool
     ensures { IsTrue result ↔ IsBlank x }
@@ -26,6 +32,13 @@ fn is_escaped(x: u8) -> bool
         || x == b'n'
         || x == b'r'
         || x == b't'
+}
+
+// Not `&&`: where each test is made, many bytes are tested at once.
+fn is_unescaped(x: u8) -> bool
+    ensures { IsTrue result ↔ IsUnescaped x }
+{
+    (x >= 32) & (x != b'"') & (x != b'\\')
 }
 
 fn is_hex_digit(x: u8) -> bool
@@ -100,6 +113,49 @@ fn has_hex_digits(text: &[u8]) -> bool
         && is_hex_digit(text[5])
 }
 
+// Whether the block of bytes at this place stands for itself in a string. No byte ends the loop
+// early, so that it becomes a few steps on vectors.
+fn is_block_unescaped(text: &[u8], at: usize) -> bool
+    requires { at + 32 ≤ length text.now }
+    ensures { IsTrue result → Each IsUnescaped (take 32 (drop at text.now)) }
+{
+    let mut unescaped = true;
+    for i in 0..BLOCK {
+        unescaped &= is_unescaped(text[at + i]);
+    }
+    unescaped
+}
+
+// How many bytes of blocks that stand for themselves in a string stand in front.
+fn blocks_len(text: &[u8]) -> usize
+    ensures within { result ≤ length text.now }
+    ensures unescaped { Each IsUnescaped (take result text.now) }
+{
+    let mut at = 0;
+    'tests: while text.len() - at >= BLOCK {
+        if !is_block_unescaped(text, at) {
+            return at;
+        }
+        at += BLOCK;
+    }
+    at
+}
+
+// How many bytes that stand for themselves in a string stand in front, or some of them: those of a
+// short string one by one, and blocks only behind them.
+fn unescaped_len(text: &[u8]) -> usize
+    ensures within { result ≤ length text.now }
+    ensures unescaped { Each IsUnescaped (take result text.now) }
+{
+    let near = text.len().min(NEAR);
+    for i in 0..near {
+        if !is_unescaped(text[i]) {
+            return i;
+        }
+    }
+    near + blocks_len(&text[near..])
+}
+
 // The length of the string in front of the first quote that ends one.
 pub(crate) fn string_len(text: &[u8]) -> Option<usize>
     ensures within { IfSome result (λ n. n < length text.now) }
@@ -107,7 +163,11 @@ pub(crate) fn string_len(text: &[u8]) -> Option<usize>
         (λ n. BeginsString text.now (take n text.now) (drop (n + 1) text.now)) }
 {
     let mut i = 0;
-    'chars: while i < text.len() {
+    'chars: loop {
+        i += unescaped_len(&text[i..]);
+        if i == text.len() {
+            return None;
+        }
         if text[i] == b'"' {
             return Some(i);
         }
@@ -117,7 +177,6 @@ pub(crate) fn string_len(text: &[u8]) -> Option<usize>
         }
         i += n;
     }
-    None
 }
 
 // How many digits stand in front.

@@ -19,6 +19,9 @@ use std::alloc::Global;
 
 const MAX_DEPTH: usize = 128;
 
+// How many items stand in a block of their own size.
+const FEW: usize = 8;
+
 const TOO_DEEP: JsonRefusal = JsonRefusal::Fault(JsonFault::TooDeep);
 
 const NOT_JSON: JsonRefusal = JsonRefusal::Fault(JsonFault::NotJson);
@@ -83,6 +86,7 @@ fn read_value(alloc: Global, text: &mut Cursor, depth: usize) -> Result<Tree, Js
             return Err(TOO_DEEP);
         }
         let items = read_items(alloc, text, depth - 1)?;
+        let items = fitted(alloc, items);
         return Ok(Tree::List(Trees { items }));
     }
     if text.take(b'{') {
@@ -90,9 +94,28 @@ fn read_value(alloc: Global, text: &mut Cursor, depth: usize) -> Result<Tree, Js
             return Err(TOO_DEEP);
         }
         let members = read_members(alloc, text, depth - 1)?;
+        let members = fitted(alloc, members);
         return Ok(Tree::Members(Members { items: members }));
     }
     read_leaf(alloc, text, depth)
+}
+
+// The same items without room for more, where they are few and there is memory: in most texts the
+// small lists and objects are so many that their room is a good part of the tree.
+fn fitted<T: Drop>(alloc: Global, items: Vec<T>) -> Vec<T>
+    ensures { result.items ≡ items.items }
+{
+    let mut items = items;
+    if items.len() > FEW || items.len() == items.capacity() {
+        return items;
+    }
+    let Ok(mut exact) = Vec::with_capacity(alloc, items.len()) else {
+        return items;
+    };
+    if exact.append(&mut items).is_err() {
+        return items;
+    }
+    exact
 }
 
 // Reads what follows `[`, through the bracket that closes.

@@ -1,4 +1,4 @@
-use Rattle.std.proofs.Common.{◌≡◌, ℕ, List, [], ◌∷◌, ◌++◌, refl, sym, ap, ◌∙◌, subst, arith, rules, Err}
+use Rattle.std.proofs.Common.{◌≡◌, ℕ, ◌-◌, List, [], ◌∷◌, ◌++◌, refl, sym, ap, ◌∙◌, subst, arith, rules, Err}
 use Rattle.std.proofs.lemmas.Grind.{common_steps}
 use Rattle.gp_json.specs.declared.fault.JsonFault.TheVariants.{NotJson}
 use Rattle.gp_json.specs.Plain.{plain, plain_items, plain_entries, plain_member, list, members}
@@ -100,9 +100,10 @@ read_value-returns-in_err-items-clause-none t c f e = list_none c.args.depth c.a
 pub read_value-returns-then-take-clause-ok : goal.read_value-returns-then-take-clause-ok
 read_value-returns-then-take-clause-ok t c =
     let d = c.args.depth in
-    let v = c.in_ok-items.items in
+    let v = c.fitted-items.result in
     let seen : plain (a_list (roll-Trees record { items = v })) ≡ list (plain_items v.items) = search (rules, the_lemmas) in
-    subst (λ y. BeginsValue d c.args.text.now y c.read_items.new.text) (sym seen) (list_good d c.args.text.now c.take.new.self c.read_items.new.text (plain_items v.items) (omega arith) (c.if-take.ensures.taken refl) c.in_ok-items.ensures.ok)
+    let good = subst (λ y. BeginsItems (d - 1) c.take.new.self (plain_items y) c.read_items.new.text) (sym c.fitted-items.ensures) c.in_ok-items.ensures.ok in
+    subst (λ y. BeginsValue d c.args.text.now y c.read_items.new.text) (sym seen) (list_good d c.args.text.now c.take.new.self c.read_items.new.text (plain_items v.items) (omega arith) (c.if-take.ensures.taken refl) good)
 
 pub read_value-returns-in_err-members-clause-none : goal.read_value-returns-in_err-members-clause-none
 read_value-returns-in_err-members-clause-none t c f e =
@@ -113,10 +114,11 @@ read_value-returns-in_err-members-clause-none t c f e =
 pub read_value-returns-then-take-2-clause-ok : goal.read_value-returns-then-take-2-clause-ok
 read_value-returns-then-take-2-clause-ok t c =
     let d = c.args.depth in
-    let v = c.in_ok-members.members in
+    let v = c.fitted-members.result in
     let r = c.read_members.new.text in
     let seen : plain (an_object (roll-Members record { items = v })) ≡ members (plain_entries v.items) = search (rules, the_lemmas) in
-    let good = turns.object_good d c.take.new.self c.take-2.new.self r (plain_entries v.items) (omega arith) (c.if-take-2.ensures.taken refl) c.in_ok-members.ensures.ok in
+    let read = subst (λ y. BeginsMembers (d - 1) c.take-2.new.self (plain_entries y) r) (sym c.fitted-members.ensures) c.in_ok-members.ensures.ok in
+    let good = turns.object_good d c.take.new.self c.take-2.new.self r (plain_entries v.items) (omega arith) (c.if-take-2.ensures.taken refl) read in
     subst (λ y. BeginsValue d c.args.text.now y r) (sym seen) (subst (λ y. BeginsValue d y (members (plain_entries v.items)) r) (c.if-take.ensures.stays refl) good)
 
 pub read_value-returns-clause-none : goal.read_value-returns-clause-none

@@ -20,9 +20,6 @@ no_fault s t utf8 flat h only d TooDeep k = flat k.1
 no_fault s t utf8 flat h only d NotJson k = k.2 (t, h)
 no_fault s t utf8 flat h only d DuplicateKey (_, _, (u, g, n)) = n (subst HasDistinctKeys (only u g) d)
 
-pub has_distinct_keys-requires : goal.has_distinct_keys-requires
-has_distinct_keys-requires c = record { spelled = spelled c.in-Ok.text.now (plain c.in_ok-tree.tree) c.in_ok-tree.ensures.spelled }
-
 pub returns-in-Ok-true-clause-sound : goal.returns-in-Ok-true-clause-sound
 returns-in-Ok-true-clause-sound c = record {
   spelled = spelled c.in-Ok.text.now (plain c.in_ok-tree.tree) c.in_ok-tree.ensures.spelled;

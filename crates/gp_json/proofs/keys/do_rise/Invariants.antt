@@ -1,0 +1,5 @@
+use Rattle.gp_json.specs.Decoding.{DoRise}
+use Rattle.gp_json.proofs.keys.do_rise.Given as goal
+
+abbrev pub invariant-loop-at : goal.invariant-loop-at
+invariant-loop-at l = DoRise l.at l.numbers
