@@ -16,5 +16,5 @@ pub mod First
 pub mod Examples
 pub mod Reading
 pub mod Deep
-pub mod Decoding
+pub mod EqualKeys
 pub mod Units

@@ -2,7 +2,7 @@
 ghost use Rattle.std.specs.Prelude.{◌≡◌, ◌≢◌, ◌↔◌, IsTrue};
 ghost use Rattle.gp_json.specs.Key.{units};
 ghost use Rattle.gp_json.specs.Lexical.{Each};
-ghost use Rattle.gp_json.specs.Decoding.{IsPlainByte};
+ghost use Rattle.gp_json.specs.EqualKeys.{IsPlainByte};
 
 use crate::lexeme::Lexeme;
 use crate::units::Units;

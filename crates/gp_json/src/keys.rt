@@ -4,7 +4,7 @@ ghost use Rattle.std.specs.Ordering.{nat_cmp};
 ghost use Rattle.std.specs.Cmp.Lexicographic.{slice_cmp};
 ghost use Rattle.gp_json.specs.Plain.{plain, plain_items, plain_entries};
 ghost use Rattle.gp_json.specs.Key.{units};
-ghost use Rattle.gp_json.specs.Decoding.{ArePlain, IsNewKey, sum_from, DoRise};
+ghost use Rattle.gp_json.specs.EqualKeys.{ArePlain, IsNewKey, sum_from, DoRise};
 ghost use Rattle.gp_json.specs.Sound.{keys, AreDistinct, HasDistinctKeys, ItemsHaveDistinctKeys, MembersHaveDistinctKeys};
 
 use crate::key::{is_plain, same_key};

@@ -2,7 +2,7 @@ use Rattle.std.proofs.Common.{◌≡◌, [], ◌∷◌, ◌++◌, map, length, t
 use Rattle.std.proofs.lemmas.List.{take_all}
 use Rattle.gp_json.specs.Sound.{AreDistinct}
 use Rattle.gp_json.specs.Key.{units}
-use Rattle.gp_json.specs.Decoding.{sum_from, DoRise}
+use Rattle.gp_json.specs.EqualKeys.{sum_from, DoRise}
 use Rattle.gp_json.proofs.Distinct.{key_units, key_units_more}
 use Rattle.gp_json.proofs.PlainKeys.{plain_units, plain_key}
 use Rattle.gp_json.proofs.SortedKeys.{decoded, decoded_push, distinct_by, distinct_from_rise, distinct_permutation_back}

@@ -1,5 +1,5 @@
 use Rattle.std.proofs.Common.{◌≡◌, [], ◌∷◌, take, map}
-use Rattle.gp_json.specs.Decoding.{sum_from}
+use Rattle.gp_json.specs.EqualKeys.{sum_from}
 use Rattle.gp_json.proofs.SortedKeys.{decoded}
 use Rattle.gp_json.proofs.Distinct.{key_units}
 use Rattle.gp_json.proofs.keys.are_sums_distinct.Given as goal

@@ -1,4 +1,4 @@
-use Rattle.gp_json.specs.Decoding.{DoRise}
+use Rattle.gp_json.specs.EqualKeys.{DoRise}
 use Rattle.gp_json.proofs.keys.do_rise.Given as goal
 
 abbrev pub invariant-loop-at : goal.invariant-loop-at

@@ -1,6 +1,6 @@
 use Rattle.std.proofs.Common.{sym, ap, ◌∙◌, arith}
 use Rattle.std.proofs.lemmas.List.{at_drop_more, drop_all}
-use Rattle.gp_json.specs.Decoding.{sum_from}
+use Rattle.gp_json.specs.EqualKeys.{sum_from}
 use Rattle.gp_json.proofs.keys.sum_of.Goals as goal
 
 pub bytes-preserved : goal.bytes-preserved

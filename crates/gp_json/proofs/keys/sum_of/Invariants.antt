@@ -1,5 +1,5 @@
 use Rattle.std.proofs.Common.{◌≡◌, drop}
-use Rattle.gp_json.specs.Decoding.{sum_from}
+use Rattle.gp_json.specs.EqualKeys.{sum_from}
 use Rattle.gp_json.proofs.keys.sum_of.Given as goal
 
 abbrev pub invariant-bytes : goal.invariant-bytes
