@@ -4,3 +4,4 @@ pub mod Needs
 pub mod Documents
 pub mod Answering
 pub mod Lengths
+pub mod Examples
