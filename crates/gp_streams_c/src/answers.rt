@@ -1,4 +1,7 @@
 // What the calls answer.
+ghost use Rattle.std.specs.Prelude.{◌≡◌, MatchResult};
+ghost use Rattle.gp_streams_c.specs.Answers.{HandedOut, answer_for};
+
 use gp_groups::StreamFault;
 use gp_host::NoMemory;
 
@@ -15,7 +18,9 @@ pub const NO_MEMORY: u32 = 2;
 pub const NO_ROOM: u32 = 3;
 
 // The answer of a decoder.
-pub fn answer_of(decoded: Result<(), StreamFault>) -> u32 {
+pub fn answer_of(decoded: Result<(), StreamFault>) -> u32
+    ensures { result ≡ answer_for decoded }
+{
     match decoded {
         Ok(()) => DONE,
         Err(StreamFault::Header) => 4,
@@ -28,7 +33,9 @@ pub fn answer_of(decoded: Result<(), StreamFault>) -> u32 {
 }
 
 // Hands an encoded stream out: its bytes at the front of the room, and how many they are.
-pub fn hand_out(encoded: Result<Vec<u8>, NoMemory>, room: &mut [u8], size: &mut usize) -> u32 {
+pub fn hand_out(encoded: Result<Vec<u8>, NoMemory>, room: &mut [u8], size: &mut usize) -> u32
+    ensures { MatchResult encoded (λ bytes. HandedOut bytes.items result size.new room.old room.new) (λ _. (result ≡ 2) × (room.new ≡ room.old)) }
+{
     let Ok(bytes) = encoded else {
         return NO_MEMORY;
     };

@@ -1,5 +1,8 @@
 // Attribute streams.
 ghost use Rattle.std.specs.Prelude.{◌≡◌, ◌*◌, ◌%◌, ◌≤◌, ◌↔◌, IsTrue, length};
+ghost use Rattle.gp_groups.specs.Attributes.{attr};
+ghost use Rattle.gp_groups.specs.WrittenAttributes.{attrw};
+ghost use Rattle.gp_streams_c.specs.Answers.{Decoded, Encoded, are_elements};
 
 use crate::answers::{NO_SHAPE, answer_of, hand_out};
 use gp_vertex::{decode_attributes, encode_attributes};
@@ -12,7 +15,9 @@ pub extern "C" fn gp_streams_c_decode_attributes(
     count: usize,
     stride: usize,
     dest: &mut [u8],
-) -> u32 {
+) -> u32
+    ensures { Decoded (are_elements (length dest.old) count stride) (attr bytes.now count stride) result dest.old dest.new }
+{
     if has_shape(dest.len(), count, stride) {
         answer_of(decode_attributes(bytes, count, stride, dest))
     } else {
@@ -29,7 +34,9 @@ pub extern "C" fn gp_streams_c_encode_attributes(
     stride: usize,
     room: &mut [u8],
     size: &mut usize,
-) -> u32 {
+) -> u32
+    ensures { Encoded (are_elements (length source.now) count stride) (attrw source.now count stride) result size.new room.old room.new }
+{
     if has_shape(source.len(), count, stride) {
         hand_out(encode_attributes(alloc, source, count, stride), room, size)
     } else {
@@ -39,7 +46,8 @@ pub extern "C" fn gp_streams_c_encode_attributes(
 
 // Whether so many bytes are `count` elements of a stride that an attribute stream may have.
 fn has_shape(len: usize, count: usize, stride: usize) -> bool
-    ensures { IsTrue result ↔ ((stride % 4 ≡ 0) × (4 ≤ stride) × (stride ≤ 256) × (len ≡ count * stride)) }
+    ensures value { result ≡ are_elements len count stride }
+    ensures told { IsTrue result ↔ ((stride % 4 ≡ 0) × (4 ≤ stride) × (stride ≤ 256) × (len ≡ count * stride)) }
 {
     stride % 4 == 0 && stride >= 4 && stride <= 256 && count.checked_mul(stride) == Some(len)
 }

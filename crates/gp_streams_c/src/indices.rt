@@ -1,5 +1,11 @@
 // Streams of indices and of triangles.
-ghost use Rattle.std.specs.Prelude.{◌≡◌, ◌*◌, ◌⊎◌, ◌↔◌, IsTrue};
+ghost use Rattle.std.specs.Prelude.{◌≡◌, ◌*◌, ◌%◌, ◌^◌, ◌==◌, ◌&&◌, ◌⊎◌, ◌<◌, ◌↔◌, IsTrue, length, nat_lt};
+ghost use Rattle.std.specs.List.{All, list_all};
+ghost use Rattle.gp_groups.specs.Sequence.{seq};
+ghost use Rattle.gp_groups.specs.Triangles.{tri};
+ghost use Rattle.gp_groups.specs.WrittenSequence.{seqw};
+ghost use Rattle.gp_groups.specs.WrittenTriangles.{triw};
+ghost use Rattle.gp_streams_c.specs.Answers.{Decoded, Encoded, are_indices};
 
 use crate::answers::{NO_SHAPE, answer_of, hand_out};
 use gp_index::{decode_triangles, encode_triangles};
@@ -13,7 +19,9 @@ pub extern "C" fn gp_streams_c_decode_sequence(
     count: usize,
     stride: usize,
     dest: &mut [u8],
-) -> u32 {
+) -> u32
+    ensures { Decoded (are_indices (length dest.old) count stride) (seq bytes.now count stride) result dest.old dest.new }
+{
     if has_shape(dest.len(), count, stride) {
         answer_of(decode_sequence(bytes, count, stride, dest))
     } else {
@@ -28,8 +36,10 @@ pub extern "C" fn gp_streams_c_encode_sequence(
     indices: &[u32],
     room: &mut [u8],
     size: &mut usize,
-) -> u32 {
-    if indices.iter().all(|index| *index < 1 << 30) {
+) -> u32
+    ensures { Encoded (list_all (λ index. nat_lt index (2 ^ 30)) indices.now) (seqw indices.now) result size.new room.old room.new }
+{
+    if are_below(indices, 1 << 30) {
         hand_out(encode_sequence(alloc, indices), room, size)
     } else {
         NO_SHAPE
@@ -43,7 +53,9 @@ pub extern "C" fn gp_streams_c_decode_triangles(
     count: usize,
     stride: usize,
     dest: &mut [u8],
-) -> u32 {
+) -> u32
+    ensures { Decoded (are_indices (length dest.old) count stride && count % 3 == 0) (tri bytes.now count stride) result dest.old dest.new }
+{
     if has_shape(dest.len(), count, stride) && count % 3 == 0 {
         answer_of(decode_triangles(bytes, count, stride, dest))
     } else {
@@ -58,8 +70,10 @@ pub extern "C" fn gp_streams_c_encode_triangles(
     indices: &[u32],
     room: &mut [u8],
     size: &mut usize,
-) -> u32 {
-    if indices.len() % 3 == 0 && indices.iter().all(|index| *index < 1 << 24) {
+) -> u32
+    ensures { Encoded (length indices.now % 3 == 0 && list_all (λ index. nat_lt index (2 ^ 24)) indices.now) (triw indices.now) result size.new room.old room.new }
+{
+    if indices.len() % 3 == 0 && are_below(indices, 1 << 24) {
         hand_out(encode_triangles(alloc, indices), room, size)
     } else {
         NO_SHAPE
@@ -68,7 +82,16 @@ pub extern "C" fn gp_streams_c_encode_triangles(
 
 // Whether so many bytes are `count` indices of two or four bytes each.
 fn has_shape(len: usize, count: usize, stride: usize) -> bool
-    ensures { IsTrue result ↔ (((stride ≡ 2) ⊎ (stride ≡ 4)) × (len ≡ count * stride)) }
+    ensures value { result ≡ are_indices len count stride }
+    ensures told { IsTrue result ↔ (((stride ≡ 2) ⊎ (stride ≡ 4)) × (len ≡ count * stride)) }
 {
     (stride == 2 || stride == 4) && count.checked_mul(stride) == Some(len)
+}
+
+// Whether all indices are below the limit.
+fn are_below(indices: &[u32], limit: u32) -> bool
+    ensures value { result ≡ list_all (λ index. nat_lt index limit) indices.now }
+    ensures told { IsTrue result ↔ All (λ index. index < limit) indices.now }
+{
+    indices.iter().all(|index| *index < limit)
 }

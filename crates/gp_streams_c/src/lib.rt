@@ -12,5 +12,6 @@ mod indices;
 pub use answers::{DONE, NO_MEMORY, NO_ROOM, NO_SHAPE};
 pub use attributes::{gp_streams_c_decode_attributes, gp_streams_c_encode_attributes};
 pub use indices::{
-    gp_streams_c_decode_sequence, gp_streams_c_decode_triangles, gp_streams_c_encode_sequence, gp_streams_c_encode_triangles,
+    gp_streams_c_decode_sequence, gp_streams_c_decode_triangles, gp_streams_c_encode_sequence,
+    gp_streams_c_encode_triangles,
 };
