@@ -203,50 +203,59 @@ Input attribute_input(const std::string& name, Bytes plain, size_t stride) {
     return input;
 }
 
-Input triangle_input(const std::string& name, const Indices& indices) {
+// The calls of both libraries for one kind of index streams.
+struct IndexCalls {
+    decltype(&gp_streams_c_encode_triangles) our_encode;
+    decltype(&gp_streams_c_decode_triangles) our_decode;
+#ifdef WITH_MESHOPTIMIZER
+    size_t (*their_encode)(unsigned char*, size_t, const unsigned int*, size_t);
+    int (*their_decode)(void*, size_t, size_t, const unsigned char*, size_t);
+#endif
+};
+
+Input index_input(const std::string& name, const Indices& indices, double units, const char* unit, bool is_exact, IndexCalls calls) {
     auto source = std::make_shared<Indices>(indices);
     size_t count = indices.size();
-    Input input{name, as_bytes(indices), double(count) / 3e6, "Mtri/s", 8 * count + 4096, false, {}, {}};
+    Input input{name, as_bytes(indices), units, unit, 8 * count + 4096, is_exact, {}, {}};
     input.ours = {
         [=](Bytes& room) {
             size_t size = 0;
-            must(gp_streams_c_encode_triangles(source->data(), count, room.data(), room.size(), &size));
+            must(calls.our_encode(source->data(), count, room.data(), room.size(), &size));
             return size;
         },
         [=](const Bytes& stream, Bytes& dest) {
-            must(gp_streams_c_decode_triangles(stream.data(), stream.size(), count, 4, dest.data(), dest.size()));
+            must(calls.our_decode(stream.data(), stream.size(), count, 4, dest.data(), dest.size()));
         }};
 #ifdef WITH_MESHOPTIMIZER
     input.theirs = {
-        [=](Bytes& room) { return meshopt_encodeIndexBuffer(room.data(), room.size(), source->data(), count); },
+        [=](Bytes& room) { return calls.their_encode(room.data(), room.size(), source->data(), count); },
         [=](const Bytes& stream, Bytes& dest) {
-            if (meshopt_decodeIndexBuffer(dest.data(), count, 4, stream.data(), stream.size()) != 0) fail("libmeshoptimizer refuses " + name);
+            if (calls.their_decode(dest.data(), count, 4, stream.data(), stream.size()) != 0) fail("libmeshoptimizer refuses " + name);
         }};
 #endif
     return input;
 }
 
-Input sequence_input(const std::string& name, const Indices& indices) {
-    auto source = std::make_shared<Indices>(indices);
-    size_t count = indices.size();
-    Input input{name, as_bytes(indices), double(count) / 1e6, "Midx/s", 8 * count + 4096, true, {}, {}};
-    input.ours = {
-        [=](Bytes& room) {
-            size_t size = 0;
-            must(gp_streams_c_encode_sequence(source->data(), count, room.data(), room.size(), &size));
-            return size;
-        },
-        [=](const Bytes& stream, Bytes& dest) {
-            must(gp_streams_c_decode_sequence(stream.data(), stream.size(), count, 4, dest.data(), dest.size()));
-        }};
+Input triangle_input(const std::string& name, const Indices& indices) {
+    IndexCalls calls{};
+    calls.our_encode = gp_streams_c_encode_triangles;
+    calls.our_decode = gp_streams_c_decode_triangles;
 #ifdef WITH_MESHOPTIMIZER
-    input.theirs = {
-        [=](Bytes& room) { return meshopt_encodeIndexSequence(room.data(), room.size(), source->data(), count); },
-        [=](const Bytes& stream, Bytes& dest) {
-            if (meshopt_decodeIndexSequence(dest.data(), count, 4, stream.data(), stream.size()) != 0) fail("libmeshoptimizer refuses " + name);
-        }};
+    calls.their_encode = meshopt_encodeIndexBuffer;
+    calls.their_decode = meshopt_decodeIndexBuffer;
 #endif
-    return input;
+    return index_input(name, indices, double(indices.size()) / 3e6, "Mtri/s", false, calls);
+}
+
+Input sequence_input(const std::string& name, const Indices& indices) {
+    IndexCalls calls{};
+    calls.our_encode = gp_streams_c_encode_sequence;
+    calls.our_decode = gp_streams_c_decode_sequence;
+#ifdef WITH_MESHOPTIMIZER
+    calls.their_encode = meshopt_encodeIndexSequence;
+    calls.their_decode = meshopt_decodeIndexSequence;
+#endif
+    return index_input(name, indices, double(indices.size()) / 1e6, "Midx/s", true, calls);
 }
 
 // Each triangle begun at its least corner, which neither coder promises to keep.
