@@ -3,6 +3,8 @@ use Rattle.std.proofs.Common.{◌≡◌, ℕ, List, [], ◌∷◌, ◌++◌, cod
 use Rattle.gp_glb.specs.Bytes.{Chunk, IsWhole, word, word_at, chunk_bytes, header, headed, padded}
 use Rattle.gp_glb.specs.Container.{IsText, json_kind, StandsFor, glb, glb_len, padded_len}
 use Rattle.gp_glb.specs.Faults.{IsFirstFault}
+use Rattle.gp_glb.specs.Uri.{code_of, strip_prefix, uri_bytes}
+use Rattle.base64.proofs.OnLiterals.{base64_on_literals}
 use Rattle.gp_glb.specs.declared.fault.GlbFault.TheVariants.{Chunk as BrokenChunk}
 
 -- the smallest container: 48 bytes, 27 of them JSON, and one space
@@ -101,3 +103,29 @@ word_of_text = refl
 
 padded_lengths : (padded_len 0 ≡ 0) × (padded_len 1 ≡ 4) × (padded_len 4 ≡ 4) × (padded_len 27 ≡ 28)
 padded_lengths = (refl, refl, refl, refl)
+
+-- data URIs
+octet_stream : (code_of (codes "data:application/octet-stream;base64,AQIDBA==") ≡ Some (codes "AQIDBA=="))
+    × (uri_bytes (codes "data:application/octet-stream;base64,AQIDBA==") ≡ Some (1 ∷ 2 ∷ 3 ∷ 4 ∷ []))
+unfolding uri_bytes code_of strip_prefix base64_on_literals
+octet_stream = (refl, refl)
+
+gltf_buffer : uri_bytes (codes "data:application/gltf-buffer;base64,Zm9vYg==") ≡ Some (codes "foob")
+unfolding uri_bytes code_of strip_prefix base64_on_literals
+gltf_buffer = refl
+
+no_padding : (code_of (codes "data:application/gltf-buffer;base64,AQ") ≡ Some (codes "AQ")) × (uri_bytes (codes "data:application/gltf-buffer;base64,AQ") ≡ None)
+unfolding uri_bytes code_of strip_prefix base64_on_literals
+no_padding = (refl, refl)
+
+bits_left_over : uri_bytes (codes "data:application/gltf-buffer;base64,AR==") ≡ None
+unfolding uri_bytes code_of strip_prefix base64_on_literals
+bits_left_over = refl
+
+no_buffer : (code_of (codes "data:image/png;base64,AQ==") ≡ None) × (code_of (codes "data:application/octet-stream;base64") ≡ None) × (code_of (codes "") ≡ None)
+unfolding code_of strip_prefix
+no_buffer = (refl, refl, refl)
+
+empty_code : uri_bytes (codes "data:application/octet-stream;base64,") ≡ Some []
+unfolding uri_bytes code_of strip_prefix base64_on_literals
+empty_code = refl

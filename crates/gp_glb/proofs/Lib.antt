@@ -1,4 +1,6 @@
 pub mod Appending
+pub mod Contents
+pub mod DecodedBytes
 mod Examples
 pub mod FirstChunk
 pub mod Headers

@@ -1,12 +1,12 @@
 -- Laws of containers and data URIs.
-use Rattle.std.specs.Prelude.{◌≡◌, ℕ, ◌<◌, ◌≤◌, ◌^◌, List, length, Option, Ok, Result, IfSome, codes}
+use Rattle.std.specs.Prelude.{◌≡◌, ◌↔◌, ℕ, ◌<◌, ◌≤◌, ◌^◌, List, length, Option, Some, Ok, Result, IfSome, codes}
 use Rattle.std.specs.Option.{option_map}
-use Rattle.base64.specs.GeneralPurpose.{engine_symbols}
+use Rattle.base64.specs.GeneralPurpose.{IsBytes, engine_symbols}
 use Rattle.base64.specs.Engines.{standard}
 use Rattle.gp_glb.specs.Bytes.{Chunk, padded}
 use Rattle.gp_glb.specs.Container.{Container, StandsFor, AreWholeChunks, IsRest, glb, glb_len}
 use Rattle.gp_glb.specs.Faults.{Reads}
-use Rattle.gp_glb.specs.Uri.{HasCode, Holds}
+use Rattle.gp_glb.specs.Uri.{HasCode, Holds, code_of, uri_bytes}
 use Rattle.gp_glb.specs.declared.fault.GlbFault.{GlbFault}
 
 -- bytes have one reading
@@ -68,6 +68,14 @@ HaveOneCode = (text one other : List ℕ) → HasCode text one → HasCode text 
 -- a text holds one list of bytes
 abbrev pub HaveOneContent : Type 0
 HaveOneContent = (text one other : List ℕ) → Holds text one → Holds text other → one ≡ other
+
+-- the function gives the code that a text has, and none where it has none
+abbrev pub CodesAgree : Type 0
+CodesAgree = (text code : List ℕ) → (code_of text ≡ Some code) ↔ HasCode text code
+
+-- the function gives the bytes that a text of bytes holds, and none where it holds none
+abbrev pub ContentsAgree : Type 0
+ContentsAgree = (text bytes : List ℕ) → IsBytes text → (uri_bytes text ≡ Some bytes) ↔ Holds text bytes
 
 -- the alphabet of the codes (RFC 4648, section 4, table 1)
 abbrev pub HasAlphabet : Type 0

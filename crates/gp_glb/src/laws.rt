@@ -1,5 +1,5 @@
 //! Laws of containers and data URIs, each the contract of a function that does nothing.
-ghost use Rattle.gp_glb.specs.Laws.{HasAlphabet, HasLength, HaveOneCode, HaveOneContent, HaveOneReading, PartsAreWithin, ReadsBack, RestsAreKept, RestsAreWhole, RestsHaveChunks, StandForOne, StandsForItsParts};
+ghost use Rattle.gp_glb.specs.Laws.{CodesAgree, ContentsAgree, HasAlphabet, HasLength, HaveOneCode, HaveOneContent, HaveOneReading, PartsAreWithin, ReadsBack, RestsAreKept, RestsAreWhole, RestsHaveChunks, StandForOne, StandsForItsParts};
 
 /// Bytes have one reading: the parts of one container, or one first fault.
 pub fn have_one_reading()
@@ -54,6 +54,16 @@ pub fn have_one_code()
 /// A data URI holds one list of bytes.
 pub fn have_one_content()
     ensures { HaveOneContent }
+{}
+
+/// `code_of` gives exactly the code of a data URI.
+pub fn codes_agree()
+    ensures { CodesAgree }
+{}
+
+/// `uri_bytes` gives exactly the bytes that a data URI holds.
+pub fn contents_agree()
+    ensures { ContentsAgree }
 {}
 
 /// The engine's alphabet is that of base64 (RFC 4648, section 4, table 1).

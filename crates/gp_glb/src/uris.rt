@@ -1,6 +1,6 @@
 // Data URIs: the prefixes of a buffer, and the base64 behind them.
-ghost use Rattle.std.specs.Prelude.{◌≡◌, List, ℕ, IfErr, IfOk, MatchOption};
-ghost use Rattle.gp_glb.specs.Uri.{HasCode, HasOtherScheme, Holds, IsUriFault};
+ghost use Rattle.std.specs.Prelude.{IfErr, IfOk, MatchOption};
+ghost use Rattle.gp_glb.specs.Uri.{HasCode, HasOtherScheme, Holds, IsUriFault, ReadsUri};
 
 use crate::UriFault;
 use base64::DecodeAllocError;
@@ -22,8 +22,8 @@ fn code_of(text: &[u8]) -> Option<&[u8]>
 /// The media type is `application/octet-stream` or `application/gltf-buffer`, in these letters. The base64 is canonical: padded, and with no bits left over.
 pub fn data_uri(alloc: Global, text: &[u8]) -> Result<Vec<u8>, UriFault>
     ensures bytes { IfOk result (λ out. Holds text.now out.items) }
-    ensures only { IfOk result (λ out. (bytes : List ℕ) → Holds text.now bytes → bytes ≡ out.items) }
     ensures fault { IfErr result (IsUriFault text.now) }
+    ensures meaning { ReadsUri text.now result }
 {
     let Some(code) = code_of(text) else {
         return Err(UriFault::Scheme);

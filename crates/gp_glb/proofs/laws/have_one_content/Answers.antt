@@ -1,4 +1,4 @@
-use Rattle.gp_glb.proofs.Prefixes.{have_one_content as law}
+use Rattle.gp_glb.proofs.Contents.{have_one_content as law}
 use Rattle.gp_glb.proofs.laws.have_one_content.Goals as goal
 
 pub returns : goal.returns
