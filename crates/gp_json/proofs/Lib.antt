@@ -36,3 +36,4 @@ pub mod Wholes
 pub mod Names
 pub mod InTree
 pub mod NamedAnywhere
+pub mod KeysUnder

@@ -10,6 +10,7 @@ use Rattle.gp_json.specs.Sound.{depth}
 use Rattle.gp_json.specs.Fault.{IsFront, IsTooDeep}
 use Rattle.gp_json.specs.Look.{item as item_at, items_len}
 use Rattle.gp_json.specs.Find.{find_member}
+use Rattle.gp_json.specs.Anywhere.{keys_under}
 use Rattle.gp_json.specs.Values.{whole, ascii}
 use Rattle.gp_json.specs.TreeEdits.{with_member, without, at_member, at_item, without_item, and_items}
 
@@ -101,6 +102,18 @@ finds_first = refl
 pub finds_none : find_member (codes "c") entries ≡ None
 unfolding chars
 finds_none = refl
+
+-- `{"a":{"b":1,"c":{"a":{"d":2}}},"b":{"a":3}}` has two objects under the key `a`
+pub under_a : keys_under (codes "a") (members (member (codes "a") (members (member (codes "b") one (member (codes "c") (members (member (codes "a") (members (member (codes "d") two no_members)) no_members)) no_members))) (member (codes "b") (members (member (codes "a") three no_members)) no_members)))
+    ≡ codes "b" ∷ codes "c" ∷ codes "d" ∷ []
+unfolding chars
+under_a = refl
+
+-- `[{"\u0062":{"\u0062":1},"b":[{"a":2}]}]` has one under the key `b`, whose own key stays as it is spelled
+pub under_b : keys_under (codes "b") (list (item (members (member spelled_b (members (member spelled_b one no_members)) (member (codes "b") (list (item (members (member (codes "a") two no_members)) no_items)) no_members))) no_items))
+    ≡ spelled_b ∷ []
+unfolding chars
+under_b = refl
 
 -- the first stays in its place as it is spelled, and a new member goes last
 pub set_there : with_member (codes "b") null entries ≡ members (member (codes "a") one (member spelled_b null (member (codes "b") three no_members)))

@@ -3,8 +3,9 @@
 //!
 //! [`read`] takes any list of bytes. It gives the one tree that the text spells, or the first fault
 //! that the text has. [`print`] gives the compact text of a tree. Between the two a [`Tree`] is
-//! looked into (`find`, `item`, `len`, `whole`, `ascii`) and edited in place (`set`, `remove`,
-//! `append`, `remove_item`, `item_mut`, `find_mut`):
+//! looked into (`find`, `item`, `len`, `whole`, `ascii`, and at any place `has_member`,
+//! `keys_under`) and edited in place (`set`, `remove`, `append`, `remove_item`, `item_mut`,
+//! `find_mut`):
 //!
 //! ```text
 //! fn with_count(alloc: Global, text: &[u8]) -> Result<Vec<u8>, JsonRefusal> {

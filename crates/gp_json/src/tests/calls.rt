@@ -99,6 +99,33 @@ fn finds_members_and_items(rt: HostRuntime) -> Result<(), Fail> {
     Ok(())
 }
 
+// Objects in each other, keys spelled with an escape, and members so named that hold no object.
+#[test]
+fn lists_the_keys_under_a_name(rt: HostRuntime) -> Result<(), Fail> {
+    let alloc = rt.alloc();
+    let text = b"{\"extensions\":{\"A\":{\"extensions\":{\"B\":1}},\"\\u0043\":[]},\
+        \"extras\":{\"\\u0065xtensions\":{\"D\":null,\"E\":{\"F\":2}}},\
+        \"list\":[{\"extensions\":[{\"G\":3}]},{\"extensions\":null},{\"extensions\":{}},\
+        {\"extensions\":{\"extensions\":{\"H\":4}}}],\"extension\":{\"I\":5}}";
+    let tree = read(alloc, text)?;
+    let cases = [
+        ("extensions", "A \\u0043 B D E extensions H "),
+        ("extras", "\\u0065xtensions "),
+        ("extension", "I "),
+        ("list", ""),
+        ("absent", ""),
+    ];
+    for (name, expected) in cases {
+        let mut found = Vec::new(alloc);
+        for key in tree.keys_under(alloc, name)? {
+            found.extend_from_slice(key.as_slice())?;
+            found.push(b' ')?;
+        }
+        assert_eq!(rt; found.as_slice(), expected.as_bytes(), "{name}");
+    }
+    Ok(())
+}
+
 #[test]
 fn makes_lists_objects_and_lexemes_of_vectors(rt: HostRuntime) -> Result<(), Fail> {
     let alloc = rt.alloc();
