@@ -32,7 +32,7 @@ impl Tree {
         ensures { IfOk result (λ o. option_map (λ v. v.items) o ≡ ascii (plain self.now)) }
     {
         match self {
-            Tree::Text(spelling) => ascii_units(alloc, spelling.as_slice()),
+            Tree::Text(spelling) => spelling.ascii(alloc),
             _ => Ok(None),
         }
     }
@@ -54,6 +54,16 @@ impl Tree {
     {
         let bytes = text.as_bytes().to_vec(alloc)?;
         Ok(Tree::Text(Lexeme::from_vec(bytes)))
+    }
+}
+
+impl Lexeme {
+    /// The characters that a spelled string stands for, if all of them are ASCII. `None` where one
+    /// is not.
+    pub fn ascii(&self, alloc: Global) -> Result<Option<Vec<u8>>, NoMemory>
+        ensures { IfOk result (λ o. option_map (λ v. v.items) o ≡ ascii_of (units self.now)) }
+    {
+        ascii_units(alloc, self.as_slice())
     }
 }
 
