@@ -1,0 +1,5 @@
+pub mod Each
+pub mod EachEntry
+pub mod Items
+pub mod Steps
+mod Worked

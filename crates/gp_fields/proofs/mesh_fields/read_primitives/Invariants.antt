@@ -1,0 +1,10 @@
+use Rattle.std.proofs.Common.{◌≡◌, map, drop}
+use Rattle.gp_json.specs.Plain.{plain, plain_items, list}
+use Rattle.gp_fields.specs.Shapes.{object_of, each, list_of}
+use Rattle.gp_fields.specs.Fields.{primitive_fields}
+use Rattle.gp_fields.proofs.Each.{behind}
+use Rattle.gp_fields.proofs.mesh_fields.read_primitives.Given as goal
+
+abbrev pub invariant-primitives : goal.invariant-primitives
+invariant-primitives l = list_of (object_of (primitive_fields l.fn.accessors)) (list (plain_items l.items))
+    ≡ behind l.read.items (each (object_of (primitive_fields l.fn.accessors)) (map plain (drop l.at l.items)))

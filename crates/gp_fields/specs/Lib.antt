@@ -1,0 +1,4 @@
+pub mod Shapes
+pub mod Fields
+pub mod Record
+pub mod Left
