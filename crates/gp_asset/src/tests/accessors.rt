@@ -1,0 +1,179 @@
+// Conditions of accessors (sections 3.6.2, 5.1). View 0 has 64 bytes, view 1 has 24 in strides of 16, view 2 has 8.
+use super::fault_with;
+use crate::AssetFault;
+use std::test::Fail;
+
+const BEFORE: &str =
+    r#"{"buffers":[{"byteLength":64}],"bufferViews":[{"buffer":0,"byteLength":64},{"buffer":0,"byteLength":24,"byteStride":16},{"buffer":0,"byteLength":8}],"accessors":["#;
+
+const CHUNK: &[u8] = b"0123456789abcdef0123456789abcdef0123456789abcdef0123456789abcdef";
+
+const BAD: Option<AssetFault> = Some(AssetFault::Accessor { at: 0 });
+
+#[test]
+fn components_and_types_are_known(rt: HostRuntime) -> Result<(), Fail> {
+    let rows = [
+        (r#""componentType":5120,"type":"SCALAR","count":1"#, None),
+        (r#""componentType":5121,"type":"VEC2","count":1"#, None),
+        (r#""componentType":5122,"type":"VEC3","count":1"#, None),
+        (r#""componentType":5123,"type":"VEC4","count":1"#, None),
+        (r#""componentType":5125,"type":"MAT2","count":1"#, None),
+        (r#""componentType":5126,"type":"MAT3","count":1"#, None),
+        (r#""componentType":5126,"type":"M\u0041T4","count":1"#, None),
+        (r#""componentType":5119,"type":"SCALAR","count":1"#, BAD),
+        (r#""componentType":5124,"type":"SCALAR","count":1"#, BAD),
+        (r#""componentType":5127,"type":"SCALAR","count":1"#, BAD),
+        (r#""componentType":0,"type":"SCALAR","count":1"#, BAD),
+        (r#""componentType":5126,"type":"scalar","count":1"#, BAD),
+        (r#""componentType":5126,"type":"VEC5","count":1"#, BAD),
+        (r#""componentType":5126,"type":"","count":1"#, BAD),
+        (r#""componentType":5126,"type":"SCALAR","count":0"#, BAD),
+        (r#""componentType":5124,"type":"VEC5","count":0"#, BAD),
+    ];
+    for (members, want) in rows {
+        let text = [BEFORE, "{", members, "}]}"];
+        assert_eq!(rt;
+            fault_with(rt.alloc(), &text, Some(CHUNK))?,
+            want,
+            "{members}"
+        );
+    }
+    Ok(())
+}
+
+#[test]
+fn elements_end_in_their_view(rt: HostRuntime) -> Result<(), Fail> {
+    let rows = [
+        (r#""bufferView":2,"count":2"#, None),
+        (r#""bufferView":2,"count":3"#, BAD),
+        (r#""bufferView":2,"count":0"#, BAD),
+        (r#""bufferView":2,"count":1,"byteOffset":4"#, None),
+        (r#""bufferView":2,"count":1,"byteOffset":5"#, BAD),
+        (r#""bufferView":2,"count":2,"byteOffset":4"#, BAD),
+        (r#""bufferView":2,"count":1,"byteOffset":8"#, BAD),
+        (r#""bufferView":2,"count":2,"byteOffset":4294967292"#, BAD),
+        (r#""bufferView":2,"count":1073741825"#, BAD),
+        (r#""bufferView":0,"count":16"#, None),
+        (r#""bufferView":0,"count":17"#, BAD),
+        (r#""bufferView":1,"count":2,"byteOffset":4"#, None),
+        (r#""bufferView":1,"count":2,"byteOffset":5"#, BAD),
+        (r#""bufferView":1,"count":3"#, BAD),
+        (r#""bufferView":1,"count":268435457"#, BAD),
+    ];
+    for (members, want) in rows {
+        let text = [
+            BEFORE,
+            r#"{"componentType":5126,"type":"SCALAR","#,
+            members,
+            "}]}",
+        ];
+        assert_eq!(rt;
+            fault_with(rt.alloc(), &text, Some(CHUNK))?,
+            want,
+            "{members}"
+        );
+    }
+    Ok(())
+}
+
+// The last element needs no more than its own bytes, and the columns of a matrix begin at multiples of 4.
+#[test]
+fn elements_have_sizes(rt: HostRuntime) -> Result<(), Fail> {
+    let rows = [
+        (
+            r#""bufferView":1,"componentType":5126,"type":"VEC2","count":2"#,
+            None,
+        ),
+        (
+            r#""bufferView":1,"componentType":5126,"type":"VEC3","count":2"#,
+            BAD,
+        ),
+        (
+            r#""bufferView":2,"componentType":5121,"type":"VEC3","count":2"#,
+            None,
+        ),
+        (
+            r#""bufferView":2,"componentType":5121,"type":"VEC3","count":3"#,
+            BAD,
+        ),
+        (
+            r#""bufferView":2,"componentType":5123,"type":"VEC4","count":1"#,
+            None,
+        ),
+        (
+            r#""bufferView":2,"componentType":5123,"type":"VEC4","count":2"#,
+            BAD,
+        ),
+        (
+            r#""bufferView":2,"componentType":5121,"type":"MAT2","count":1"#,
+            None,
+        ),
+        (
+            r#""bufferView":2,"componentType":5121,"type":"MAT2","count":1,"byteOffset":1"#,
+            BAD,
+        ),
+        (
+            r#""bufferView":0,"componentType":5121,"type":"MAT3","count":1,"byteOffset":52"#,
+            None,
+        ),
+        (
+            r#""bufferView":0,"componentType":5121,"type":"MAT3","count":1,"byteOffset":53"#,
+            BAD,
+        ),
+        (
+            r#""bufferView":0,"componentType":5122,"type":"MAT3","count":1,"byteOffset":40"#,
+            None,
+        ),
+        (
+            r#""bufferView":0,"componentType":5122,"type":"MAT3","count":1,"byteOffset":41"#,
+            BAD,
+        ),
+        (
+            r#""bufferView":0,"componentType":5123,"type":"MAT3","count":2,"byteOffset":16"#,
+            None,
+        ),
+        (
+            r#""bufferView":0,"componentType":5123,"type":"MAT3","count":2,"byteOffset":17"#,
+            BAD,
+        ),
+        (
+            r#""bufferView":0,"componentType":5126,"type":"MAT4","count":1"#,
+            None,
+        ),
+        (
+            r#""bufferView":0,"componentType":5126,"type":"MAT4","count":1,"byteOffset":1"#,
+            BAD,
+        ),
+    ];
+    for (members, want) in rows {
+        let text = [BEFORE, "{", members, "}]}"];
+        assert_eq!(rt;
+            fault_with(rt.alloc(), &text, Some(CHUNK))?,
+            want,
+            "{members}"
+        );
+    }
+    Ok(())
+}
+
+#[test]
+fn the_first_accessor_is_named(rt: HostRuntime) -> Result<(), Fail> {
+    let good = r#"{"componentType":5126,"type":"SCALAR","count":1}"#;
+    let empty = r#"{"componentType":5126,"type":"SCALAR","count":0}"#;
+    let unknown = r#"{"componentType":5124,"type":"SCALAR","count":1}"#;
+    let rows = [
+        ([good, good, good], None),
+        ([good, empty, unknown], Some(AssetFault::Accessor { at: 1 })),
+        ([good, good, unknown], Some(AssetFault::Accessor { at: 2 })),
+        ([unknown, good, empty], BAD),
+    ];
+    for ([first, second, third], want) in rows {
+        let text = [BEFORE, first, ",", second, ",", third, "]}"];
+        assert_eq!(rt;
+            fault_with(rt.alloc(), &text, Some(CHUNK))?,
+            want,
+            "{second}{third}"
+        );
+    }
+    Ok(())
+}
