@@ -4,11 +4,10 @@ use Rattle.std.proofs.lemmas.Fmt.{decimal_digit}
 use Rattle.itoa.proofs.Decimal.{decimal_two}
 use Rattle.gp_glb.specs.declared.fault.GlbFault.TheVariants.{Chunk}
 use Rattle.gp_json.specs.declared.fault.JsonFault.TheVariants.{DuplicateKey}
-use Rattle.gp_pack.specs.declared.refusal.Refusal.TheVariants.{Glb, Json}
+use Rattle.gp_asset.specs.declared.refusal.Refusal.TheVariants.{Glb, Json}
 use Rattle.gp_app.specs.Words.{command}
 use Rattle.gp_app.specs.Lines.{packed_line, line_of_refusal}
 use Rattle.gp_app.specs.Status.{exit_code}
-use Rattle.gp_app.specs.declared.commands.Command.{Command}
 use Rattle.gp_app.specs.declared.commands.Command.TheVariants.{Pack}
 use Rattle.gp_app.specs.declared.status.Status.TheVariants.{Done, Memory}
 

@@ -6,7 +6,7 @@ use Rattle.gp_host.specs.Sink.{SinkAt}
 use Rattle.gp_pack.specs.Faults.{HasFault}
 use Rattle.gp_pack.specs.Same.{Same}
 use Rattle.gp_pack.proofs.Sameness.{packed_is_same}
-use Rattle.gp_pack.specs.declared.refusal.Refusal.{Refusal}
+use Rattle.gp_asset.specs.declared.refusal.Refusal.{Refusal}
 use Rattle.gp_app.specs.Words.{command}
 use Rattle.gp_app.specs.Lines.{too_large_line, line_of_refusal}
 use Rattle.gp_app.specs.Moment.{Moment, IsSteady, NoneRose}

@@ -4,8 +4,8 @@ use Rattle.std.specs.declared.result.Result.{Result}
 use Rattle.std.specs.declared.option.Option.{Option}
 use Rattle.gp_host.specs.Causes.{Rose}
 use Rattle.gp_host.specs.Source.{SourceAt}
-use Rattle.gp_pack.specs.declared.refusal.Refusal.{Refusal}
-use Rattle.gp_pack.specs.declared.refusal.Refusal.TheVariants.{Memory}
+use Rattle.gp_asset.specs.declared.refusal.Refusal.{Refusal}
+use Rattle.gp_asset.specs.declared.refusal.Refusal.TheVariants.{Memory}
 use Rattle.gp_app.specs.Input.{ReadTooMany, ReadSome}
 use Rattle.std.specs.Option.{option_map}
 use Rattle.gp_app.specs.Work.{Takes, Refuses, Made, Makes}

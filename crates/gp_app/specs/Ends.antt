@@ -1,7 +1,7 @@
 -- How a run ends, by its status.
 use Rattle.std.specs.Prelude.{◌≡◌, ◌⊎◌, ℕ, ◌≤◌, ◌^◌, List, length, Some, MatchOption}
 use Rattle.gp_host.specs.Causes.{Rose}
-use Rattle.gp_pack.specs.declared.refusal.Refusal.{Refusal}
+use Rattle.gp_asset.specs.declared.refusal.Refusal.{Refusal}
 use Rattle.gp_app.specs.Words.{command}
 use Rattle.gp_app.specs.Lines.{line_of_refusal, too_large_line, usage_line, input_failed_line, output_failed_line, memory_line}
 use Rattle.gp_app.specs.Moment.{Moment, NoneRose}

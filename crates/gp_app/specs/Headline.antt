@@ -3,7 +3,7 @@
 use Rattle.std.specs.Prelude.{◌≡◌, ◌≢◌, ◌⊎◌, ℕ, ◌<◌, ◌≤◌, ◌^◌, List, length, Some}
 use Rattle.gp_pack.specs.Faults.{HasFault}
 use Rattle.gp_pack.specs.Same.{Same}
-use Rattle.gp_pack.specs.declared.refusal.Refusal.{Refusal}
+use Rattle.gp_asset.specs.declared.refusal.Refusal.{Refusal}
 use Rattle.gp_app.specs.Words.{command}
 use Rattle.gp_app.specs.Lines.{too_large_line, line_of_refusal}
 use Rattle.gp_app.specs.Moment.{Moment, NoneRose}

@@ -5,7 +5,7 @@ use Rattle.gp_host.specs.Source.{SourceAt}
 use Rattle.gp_pack.specs.Faults.{HasFault}
 use Rattle.gp_pack.specs.Answers.{IsPacked}
 use Rattle.gp_pack.specs.declared.pack_out.PackOut.{PackOut}
-use Rattle.gp_pack.specs.declared.refusal.Refusal.{Refusal}
+use Rattle.gp_asset.specs.declared.refusal.Refusal.{Refusal}
 use Rattle.gp_app.specs.Lines.{packed_line}
 use Rattle.gp_app.specs.Input.{ReadToEnd}
 use Rattle.gp_app.specs.declared.commands.Command.{Command}

@@ -7,8 +7,9 @@ ghost use Rattle.gp_app.specs.Taken.{TakesInput};
 use crate::commands::Command;
 use crate::lines::packed_line;
 use arrayvec::ArrayVec;
+use gp_asset::Refusal;
 use gp_host::{Bytes, ReadRefusal, Source, read_all};
-use gp_pack::{Refusal, pack};
+use gp_pack::pack;
 use std::alloc::Global;
 
 /// The greatest length of an input.

@@ -1,6 +1,5 @@
 pub mod OneAnswer
 pub mod Sameness
-pub mod Needs
 pub mod Documents
 pub mod Answering
 pub mod Lengths

@@ -13,14 +13,17 @@ use Rattle.gp_glb.specs.declared.fault.GlbFault.{GlbFault}
 use Rattle.gp_glb.specs.declared.fault.GlbFault.TheVariants.{JsonTooLarge}
 use Rattle.gp_glb.proofs.OneReading.{stands_one, reads_one}
 use Rattle.gp_pack.specs.Document.{Document, Holds, IsDocument, glb_of}
-use Rattle.gp_pack.specs.Asset.{needs_more}
+use Rattle.gp_asset.specs.Checks.{Checked}
+use Rattle.gp_asset.specs.Asset.{AssetParts}
+use Rattle.gp_asset.specs.declared.fault.AssetFault.{AssetFault}
+use Rattle.gp_pack.specs.Accepted.{asset_of, has_views}
 use Rattle.gp_pack.specs.Packed.{packed}
-use Rattle.gp_pack.specs.Faults.{HasFault}
+use Rattle.gp_pack.specs.Faults.{HasFault, IsFaulty, IsAccepted}
 use Rattle.gp_pack.specs.Answers.{IsPacked, Answers}
 use Rattle.gp_pack.specs.Laws.{HaveOneAnswer, DocumentsAreSound}
 use Rattle.gp_pack.specs.declared.pack_out.PackOut.{PackOut}
-use Rattle.gp_pack.specs.declared.refusal.Refusal.{Refusal}
-use Rattle.gp_pack.specs.declared.refusal.Refusal.TheVariants.{Glb, Json, NotYet, OutputTooLarge, Memory}
+use Rattle.gp_asset.specs.declared.refusal.Refusal.{Refusal}
+use Rattle.gp_asset.specs.declared.refusal.Refusal.TheVariants.{Glb, Json, Asset, Stream, NotYet, OutputTooLarge, Memory}
 
 -- bytes hold one document
 pub document_one : (bytes : List ℕ) (d e : Document) → Holds bytes d → Holds bytes e → d ≡ e
@@ -44,45 +47,67 @@ no_json_fault bytes d parts fault h stands broken =
     let same = ap (λ c. c.json) (stands_one bytes _ _ stands h.container) in
     sound_no_fault h.json d.tree h.spelled h.sound fault (subst (λ s. HasJsonFault s fault) same broken)
 
--- a document has none of the faults that come before it
-no_fault_before : (bytes : List ℕ) (d : Document) (refusal : Refusal) → IsDocument bytes d → HasFault bytes refusal → (refusal ≡ NotYet) ⊎ (refusal ≡ OutputTooLarge)
-no_fault_before bytes d (Glb fault) h k = absurd (no_glb_fault bytes (record { json = h.holds.json; bin = d.bin; rest = d.rest }) fault (h.holds.container, h.fits) k)
-no_fault_before bytes d (Json fault) h k = absurd (no_json_fault bytes d k.0 fault h.holds k.1.0 k.2)
-no_fault_before bytes d NotYet h k = inl refl
-no_fault_before bytes d OutputTooLarge h k = inr refl
-no_fault_before bytes d Memory h k = absurd k
+no_glb_before : (bytes : List ℕ) (d : Document) (fault : GlbFault) → IsDocument bytes d → IsGlbFault bytes fault → ⊥
+no_glb_before bytes d fault h k = no_glb_fault bytes (record { json = h.holds.json; bin = d.bin; rest = d.rest }) fault (h.holds.container, h.fits) k
 
-accepted_one : (bytes : List ℕ) (d e : Document) → IsDocument bytes d → IsDocument bytes e → needs_more d.tree ≡ true → needs_more e.tree ≡ false → ⊥
-accepted_one bytes d e h g more none =
-    let same : d ≡ e = document_one bytes d e h.holds g.holds in
-    let t : true ≡ false = sym more ∙ ap (λ x. needs_more x.tree) same ∙ none in cc
+no_json_before : (bytes : List ℕ) (d : Document) (fault : JsonFault) → IsDocument bytes d → HasFault bytes (Json fault) → ⊥
+no_json_before bytes d fault h k = no_json_fault bytes d k.0 fault h.holds k.1.0 k.2
 
-fitting_one : (bytes : List ℕ) (d e : Document) → IsDocument bytes d → IsDocument bytes e → 2 ^ 32 ≤ length (glb_of (packed d)) → length (glb_of (packed e)) < 2 ^ 32 → ⊥
-fitting_one bytes d e h g large fits =
-    let same : d ≡ e = document_one bytes d e h.holds g.holds in
-    let long : length (glb_of (packed d)) ≡ length (glb_of (packed e)) = ap (λ x. length (glb_of (packed x))) same in
+-- ---- the asset of a document
+
+documents_one : (bytes : List ℕ) (d e : Document) → IsDocument bytes d → IsDocument bytes e → d ≡ e
+documents_one bytes d e h g = document_one bytes d e h.holds g.holds
+
+assets_one : (bytes : List ℕ) (d e : Document) (x y : Checked AssetParts) → IsDocument bytes d → IsDocument bytes e → asset_of d ≡ x → asset_of e ≡ y → x ≡ y
+assets_one bytes d e x y h g is_x is_y = sym is_x ∙ ap asset_of (documents_one bytes d e h g) ∙ is_y
+
+accepted_one : (bytes : List ℕ) (a b : IsAccepted bytes) → a.asset ≡ b.asset
+accepted_one bytes a b =
+    let e : ◌≡◌ {A = Result AssetParts AssetFault} (Ok a.asset) (Ok b.asset) = assets_one bytes a.document b.document (Ok a.asset) (Ok b.asset) a.is_document b.is_document a.is_asset b.is_asset in cc
+
+faulty_not_accepted : (bytes : List ℕ) (fault : AssetFault) (k : IsFaulty bytes fault) (a : IsAccepted bytes) → ⊥
+faulty_not_accepted bytes fault k a =
+    let e : ◌≡◌ {A = Result AssetParts AssetFault} (Err fault) (Ok a.asset) = assets_one bytes k.document a.document (Err fault) (Ok a.asset) k.is_document a.is_document k.faulty a.is_asset in cc
+
+faulty_one : (bytes : List ℕ) (fault other : AssetFault) → IsFaulty bytes fault → IsFaulty bytes other → fault ≡ other
+faulty_one bytes fault other h k =
+    let e : ◌≡◌ {A = Result AssetParts AssetFault} (Err fault) (Err other) = assets_one bytes h.document k.document (Err fault) (Err other) h.is_document k.is_document h.faulty k.faulty in cc
+
+views_one : (bytes : List ℕ) (a b : IsAccepted bytes) → has_views a.asset ≡ true → has_views b.asset ≡ false → ⊥
+views_one bytes a b some none = let e : true ≡ false = sym some ∙ ap has_views (accepted_one bytes a b) ∙ none in cc
+
+fitting_one : (bytes : List ℕ) (a b : IsAccepted bytes) → 2 ^ 32 ≤ length (glb_of (packed a.document)) → length (glb_of (packed b.document)) < 2 ^ 32 → ⊥
+fitting_one bytes a b large fits =
+    let same = documents_one bytes a.document b.document a.is_document b.is_document in
+    let long : length (glb_of (packed a.document)) ≡ length (glb_of (packed b.document)) = ap (λ x. length (glb_of (packed x))) same in
     omega (arith, long, large, fits)
+
+-- ---- answers
 
 packed_one : (bytes : List ℕ) (a b : PackOut) → IsPacked bytes a → IsPacked bytes b → a ≡ b
 packed_one bytes a b h g =
-    let same : h.document ≡ g.document = document_one bytes h.document g.document h.is_document.holds g.is_document.holds in
+    let same = documents_one bytes h.accepted.document g.accepted.document h.accepted.is_document g.accepted.is_document in
     let glb : a.glb ≡ b.glb = h.glb ∙ ap (λ x. glb_of (packed x)) same ∙ sym g.glb in
     let views : a.views ≡ b.views = h.views ∙ sym g.views in
     let streams : a.packed ≡ b.packed = h.streams ∙ sym g.streams in
     λ i. record { glb = glb i; views = views i; packed = streams i }
 
 packed_not : (bytes : List ℕ) (a : PackOut) (refusal : Refusal) → IsPacked bytes a → HasFault bytes refusal → ⊥
-packed_not bytes a (Glb fault) h k = elim (no_fault_before bytes h.document (Glb fault) h.is_document k) [ inl e ↦ cc | inr e ↦ cc ]
-packed_not bytes a (Json fault) h k = elim (no_fault_before bytes h.document (Json fault) h.is_document k) [ inl e ↦ cc | inr e ↦ cc ]
-packed_not bytes a NotYet h k = accepted_one bytes k.0 h.document k.1 h.is_document k.2 h.accepted
-packed_not bytes a OutputTooLarge h k = fitting_one bytes k.0 h.document k.1 h.is_document k.3 h.fits
+packed_not bytes a (Glb fault) h k = no_glb_before bytes h.accepted.document fault h.accepted.is_document k
+packed_not bytes a (Json fault) h k = no_json_before bytes h.accepted.document fault h.accepted.is_document k
+packed_not bytes a (Asset fault) h k = faulty_not_accepted bytes fault k h.accepted
+packed_not bytes a (Stream view fault) h k = k
+packed_not bytes a NotYet h k = views_one bytes k.0 h.accepted k.1 h.plain
+packed_not bytes a OutputTooLarge h k = fitting_one bytes k.0 h.accepted k.2 h.fits
 packed_not bytes a Memory h k = k
 
 glb_one : (bytes : List ℕ) (fault : GlbFault) (other : Refusal) → IsGlbFault bytes fault → HasFault bytes other → Glb fault ≡ other
 glb_one bytes fault (Glb g) h k = let e : ◌≡◌ {A = Result Container GlbFault} (Err fault) (Err g) = reads_one bytes (Err fault) (Err g) h k in let same : fault ≡ g = cc in ap Glb same
 glb_one bytes fault (Json g) h k = absurd (no_glb_fault bytes k.0 fault k.1 h)
-glb_one bytes fault NotYet h k = absurd (elim (no_fault_before bytes k.0 (Glb fault) k.1 h) [ inl e ↦ cc | inr e ↦ cc ])
-glb_one bytes fault OutputTooLarge h k = absurd (elim (no_fault_before bytes k.0 (Glb fault) k.1 h) [ inl e ↦ cc | inr e ↦ cc ])
+glb_one bytes fault (Asset g) h k = absurd (no_glb_before bytes k.document fault k.is_document h)
+glb_one bytes fault (Stream view g) h k = absurd k
+glb_one bytes fault NotYet h k = absurd (no_glb_before bytes k.0.document fault k.0.is_document h)
+glb_one bytes fault OutputTooLarge h k = absurd (no_glb_before bytes k.0.document fault k.0.is_document h)
 glb_one bytes fault Memory h k = absurd k
 
 json_one : (bytes : List ℕ) (fault : JsonFault) (other : Refusal) → HasFault bytes (Json fault) → HasFault bytes other → Json fault ≡ other
@@ -90,21 +115,38 @@ json_one bytes fault (Glb g) h k = sym (glb_one bytes g (Json fault) k h)
 json_one bytes fault (Json g) h k =
     let same = ap (λ c. c.json) (stands_one bytes h.0 k.0 h.1.0 k.1.0) in
     ap Json (fault_unique k.0.json fault g (subst (λ s. HasJsonFault s fault) same h.2) k.2)
-json_one bytes fault NotYet h k = absurd (elim (no_fault_before bytes k.0 (Json fault) k.1 h) [ inl e ↦ cc | inr e ↦ cc ])
-json_one bytes fault OutputTooLarge h k = absurd (elim (no_fault_before bytes k.0 (Json fault) k.1 h) [ inl e ↦ cc | inr e ↦ cc ])
+json_one bytes fault (Asset g) h k = absurd (no_json_before bytes k.document fault k.is_document h)
+json_one bytes fault (Stream view g) h k = absurd k
+json_one bytes fault NotYet h k = absurd (no_json_before bytes k.0.document fault k.0.is_document h)
+json_one bytes fault OutputTooLarge h k = absurd (no_json_before bytes k.0.document fault k.0.is_document h)
 json_one bytes fault Memory h k = absurd k
+
+asset_one : (bytes : List ℕ) (fault : AssetFault) (other : Refusal) → IsFaulty bytes fault → HasFault bytes other → Asset fault ≡ other
+asset_one bytes fault (Glb g) h k = sym (glb_one bytes g (Asset fault) k h)
+asset_one bytes fault (Json g) h k = sym (json_one bytes g (Asset fault) k h)
+asset_one bytes fault (Asset g) h k = ap Asset (faulty_one bytes fault g h k)
+asset_one bytes fault (Stream view g) h k = absurd k
+asset_one bytes fault NotYet h k = absurd (faulty_not_accepted bytes fault h k.0)
+asset_one bytes fault OutputTooLarge h k = absurd (faulty_not_accepted bytes fault h k.0)
+asset_one bytes fault Memory h k = absurd k
 
 fault_one : (bytes : List ℕ) (one other : Refusal) → HasFault bytes one → HasFault bytes other → one ≡ other
 fault_one bytes (Glb fault) other h k = glb_one bytes fault other h k
 fault_one bytes (Json fault) other h k = json_one bytes fault other h k
+fault_one bytes (Asset fault) other h k = asset_one bytes fault other h k
+fault_one bytes (Stream view fault) other h k = absurd h
 fault_one bytes NotYet (Glb g) h k = sym (glb_one bytes g NotYet k h)
 fault_one bytes NotYet (Json g) h k = sym (json_one bytes g NotYet k h)
+fault_one bytes NotYet (Asset g) h k = sym (asset_one bytes g NotYet k h)
+fault_one bytes NotYet (Stream view g) h k = absurd k
 fault_one bytes NotYet NotYet h k = refl
-fault_one bytes NotYet OutputTooLarge h k = absurd (accepted_one bytes h.0 k.0 h.1 k.1 h.2 k.2)
+fault_one bytes NotYet OutputTooLarge h k = absurd (views_one bytes h.0 k.0 h.1 k.1)
 fault_one bytes NotYet Memory h k = absurd k
 fault_one bytes OutputTooLarge (Glb g) h k = sym (glb_one bytes g OutputTooLarge k h)
 fault_one bytes OutputTooLarge (Json g) h k = sym (json_one bytes g OutputTooLarge k h)
-fault_one bytes OutputTooLarge NotYet h k = absurd (accepted_one bytes k.0 h.0 k.1 h.1 k.2 h.2)
+fault_one bytes OutputTooLarge (Asset g) h k = sym (asset_one bytes g OutputTooLarge k h)
+fault_one bytes OutputTooLarge (Stream view g) h k = absurd k
+fault_one bytes OutputTooLarge NotYet h k = absurd (views_one bytes k.0 h.0 k.1 h.1)
 fault_one bytes OutputTooLarge OutputTooLarge h k = refl
 fault_one bytes OutputTooLarge Memory h k = absurd k
 fault_one bytes Memory other h k = absurd h

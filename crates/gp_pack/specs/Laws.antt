@@ -10,7 +10,7 @@ use Rattle.gp_pack.specs.Document.{Document, Holds}
 use Rattle.gp_pack.specs.Answers.{IsPacked, Answers}
 use Rattle.gp_pack.specs.Same.{Same}
 use Rattle.gp_pack.specs.declared.pack_out.PackOut.{PackOut}
-use Rattle.gp_pack.specs.declared.refusal.Refusal.{Refusal}
+use Rattle.gp_asset.specs.declared.refusal.Refusal.{Refusal}
 
 -- an input has one answer: one packed container, or one first fault
 abbrev pub HaveOneAnswer : Type 0

@@ -1,7 +1,6 @@
 pub mod Document
-pub mod Asset
+pub mod Accepted
 pub mod Packed
-pub mod Refusals
 pub mod Faults
 pub mod Answers
 pub mod Reading

@@ -1,11 +1,12 @@
--- The packed document. No view and no buffer gets this far, so the tree stays, and no BIN chunk is referred to.
-use Rattle.std.specs.Prelude.{ℕ, None}
+-- The packed document. No buffer view gets this far, so no byte of a buffer is referred to: the buffers go, and so does the BIN chunk.
+use Rattle.std.specs.Prelude.{ℕ, None, codes}
 use Rattle.gp_json.specs.Plain.{PlainTree}
+use Rattle.gp_json.specs.TreeEdits.{without}
 use Rattle.gp_pack.specs.Document.{Document}
 
--- the tree with the edits of packing, of which there are none without views
-abbrev pub packed_tree : PlainTree → PlainTree
-packed_tree root = root
+-- the tree with the edits of packing
+unfoldable pub packed_tree : PlainTree → PlainTree
+packed_tree root = without (codes "buffers") root
 
 unfoldable pub packed : Document → Document
 packed document = record { tree = packed_tree document.tree; bin = None; rest = document.rest }

@@ -4,8 +4,8 @@ use Rattle.gp_json.specs.Plain.{PlainTree}
 use Rattle.gp_json.specs.Text.{text_of}
 use Rattle.gp_glb.specs.Container.{glb}
 use Rattle.gp_pack.specs.declared.pack_out.PackOut.{PackOut}
-use Rattle.gp_pack.specs.declared.refusal.Refusal.{Refusal}
-use Rattle.gp_pack.specs.declared.refusal.Refusal.TheVariants.{OutputTooLarge, Memory}
+use Rattle.gp_asset.specs.declared.refusal.Refusal.{Refusal}
+use Rattle.gp_asset.specs.declared.refusal.Refusal.TheVariants.{OutputTooLarge, Memory}
 
 -- the container of a tree and the other chunks
 abbrev pub written_glb : PlainTree → List ℕ → List ℕ

@@ -2,9 +2,11 @@
 ghost use Rattle.std.specs.Prelude.{◌≡◌, ◌^◌, nat_lt, length, None, IfOk, IfErr};
 ghost use Rattle.gp_json.specs.Plain.{plain};
 ghost use Rattle.gp_glb.specs.Container.{AreWholeChunks, glb_len};
+ghost use Rattle.gp_pack.specs.Packed.{packed_tree};
 ghost use Rattle.gp_pack.specs.Writing.{IsWritten, IsTooLargeOrMemory};
 
-use crate::{PackOut, Refusal};
+use crate::PackOut;
+use gp_asset::Refusal;
 use gp_glb::{join, total};
 use gp_host::Bytes;
 use gp_json::{Tree, print};
@@ -22,8 +24,19 @@ fn fits(json: &[u8], rest: &[u8]) -> bool
         && total(json.len() as u64, None, rest.len() as u64).is_some()
 }
 
-/// Writes a tree without views and the other chunks as a container, with the JSON in compact text.
-pub(crate) fn write_document(alloc: Global, tree: Tree, rest: &[u8]) -> Result<PackOut, Refusal>
+/// Writes a tree without views and the other chunks as a container, with the edits of packing and the JSON in compact text.
+#[tactic(auto, unfolding(crate::specs::Packed::packed_tree))]
+pub(crate) fn write_packed(alloc: Global, mut tree: Tree, rest: &[u8]) -> Result<PackOut, Refusal>
+    requires rest { AreWholeChunks rest.now }
+    ensures written { IfOk result (IsWritten (packed_tree (plain tree)) rest.now) }
+    ensures refused { IfErr result (IsTooLargeOrMemory (packed_tree (plain tree)) rest.now) }
+{
+    tree.remove("buffers");
+    write_document(alloc, tree, rest)
+}
+
+// Writes a tree and the other chunks as a container without a BIN chunk.
+fn write_document(alloc: Global, tree: Tree, rest: &[u8]) -> Result<PackOut, Refusal>
     requires rest { AreWholeChunks rest.now }
     ensures written { IfOk result (IsWritten (plain tree) rest.now) }
     ensures refused { IfErr result (IsTooLargeOrMemory (plain tree) rest.now) }

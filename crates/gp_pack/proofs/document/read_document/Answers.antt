@@ -6,4 +6,4 @@ use Rattle.gp_pack.proofs.document.read_document.Goals as goal
 pub returns-clause-holds : goal.returns-clause-holds
 returns-clause-holds c =
     let own = parts c.in_ok-chunks.chunks in
-    (own.bin, is_document c.args.bytes.now own (plain c.in_ok-tree.tree) c.in_ok-chunks.ensures.reads c.in_ok-tree.ensures.spelled c.in_ok-tree.ensures.sound)
+    is_document c.args.bytes.now own (plain c.in_ok-tree.tree) c.in_ok-chunks.ensures.reads c.in_ok-tree.ensures.spelled c.in_ok-tree.ensures.sound
