@@ -1,8 +1,8 @@
 #!/usr/bin/env bash
 # Compares the program with the oracle, an independent implementation in Python, on generated files:
 #   tools/compare_with_oracle.sh ORACLE COUNT SEED..
-# ORACLE is the folder with gen.py and compare.py. COUNT files are generated for each seed. Any difference in status,
-# output or report fails.
+# ORACLE is the folder with gen.py and compare.py. For each seed COUNT files are generated whose JSON has no views, and
+# the files for `pack` among COUNT of every kind. Any difference in status, output or report fails.
 set -euo pipefail
 top=$(cd "$(dirname "$0")/.." && pwd)
 oracle=$(cd "$1" && pwd)
@@ -13,15 +13,25 @@ shift 2
 cases=$(mktemp -d)
 trap 'rm -rf "$cases"' EXIT
 failed=0
-for seed in "$@"; do
-    python3 "$oracle/gen.py" "$count" "$seed" "$cases/$seed" --small >/dev/null
-    python3 "$oracle/compare.py" "$cases/$seed" --level R2 --program "$top/crates/glbpack/out/glbpack" >"$cases/told" || true
+
+# compares SEED KIND GENERATED.. with the rules that the program has today
+compare() {
+    local seed=$1 kind=$2
+    shift 2
+    python3 "$oracle/gen.py" "$count" "$seed" "$cases/$seed" "$@" >/dev/null
+    python3 "$oracle/compare.py" "$cases/$seed" --level R4 --program "$top/crates/glbpack/out/glbpack" >"$cases/told" || true
+    local told
     told=$(tail -n 1 "$cases/told")
-    echo "seed $seed: $told"
-    if [ "$told" != "0 of $count cases differ" ]; then
+    echo "seed $seed, $kind: $told"
+    if ! [[ "$told" =~ ^0\ of\ [1-9][0-9]*\ cases\ differ$ ]]; then
         cat "$cases/told"
         failed=1
     fi
     rm -rf "${cases:?}/$seed"
+}
+
+for seed in "$@"; do
+    compare "$seed" "JSON without views" --small
+    compare "$seed" "every kind" --only pack
 done
 exit "$failed"

@@ -11,4 +11,8 @@ mod files;
 #[cfg(test)]
 mod lines;
 #[cfg(test)]
+mod pairs;
+#[cfg(test)]
+mod readings;
+#[cfg(test)]
 mod words;
