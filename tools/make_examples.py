@@ -27,6 +27,18 @@ SCENE = {
     ],
 }
 
+# A triangle whose accessors have no buffer view: its elements are zeros. No view needs the buffer's bytes.
+ZEROS = {
+    "asset": {"version": "2.0", "generator": "glbpack examples"},
+    "buffers": [{"name": "nothing refers to it", "byteLength": 12}],
+    "accessors": [
+        {"componentType": 5126, "count": 3, "type": "VEC3"},
+        {"componentType": 5123, "count": 3, "type": "SCALAR"},
+    ],
+    "meshes": [{"primitives": [{"attributes": {"POSITION": 0}, "indices": 1}]}],
+    "nodes": [{"mesh": 0}],
+}
+
 # The same number in several spellings, escapes, and white space wherever JSON allows it.
 SPELLINGS = """\t{
 \t"asset" : { "version" : "2.0" , "copyright" : "\\u00a9 nobody \\/ 2026" } ,
@@ -58,6 +70,7 @@ def main() -> None:
     (EXAMPLES / "scene.gltf").write_text(pretty + "\n")
     (EXAMPLES / "notes.glb").write_bytes(glb(pretty, chunk(b"BIN\0", bytes(range(16))), notes))
     (EXAMPLES / "spellings.gltf").write_text(SPELLINGS)
+    (EXAMPLES / "zeros.gltf").write_text(json.dumps(ZEROS, indent=2) + "\n")
 
 
 if __name__ == "__main__":
