@@ -30,12 +30,13 @@ const EXTENSION: AssetFault = AssetFault::Extension { at: 0 };
 const FILTER: AssetFault = AssetFault::Filter { at: 0 };
 
 // The place of a piece, the piece, and the fault, in the order in which faults are looked for.
-const CONDITIONS: [(usize, &str, AssetFault); 12] = [
+const CONDITIONS: [(usize, &str, AssetFault); 13] = [
     (1, "0", VIEW),
     (2, r#","byteStride":6"#, VIEW),
     (1, "20", EXTENSION),
     (2, r#","byteStride":8"#, EXTENSION),
     (4, "65", EXTENSION),
+    (6, "2", EXTENSION),
     (6, "8", EXTENSION),
     (8, "0", EXTENSION),
     (8, "4", EXTENSION),
@@ -45,19 +46,21 @@ const CONDITIONS: [(usize, &str, AssetFault); 12] = [
     (12, r#","filter":"QUATERNION""#, FILTER),
 ];
 
-// The first fault of the view with these two pieces in their places.
+// The first fault of the view in this mode with these two pieces in their places.
 fn fault_with(
     alloc: Global,
+    mode: &str,
     first: (usize, &str),
     second: (usize, &str),
 ) -> Result<Option<AssetRefusal>, Fail> {
-    let text = text_with(alloc, first, second)?;
+    let text = text_with(alloc, mode, first, second)?;
     let tree = read(alloc, &text)?;
     Ok(read_asset(alloc, &tree, Some(&[0; 64]), Form::Any).err())
 }
 
 fn text_with(
     alloc: Global,
+    mode: &str,
     first: (usize, &str),
     second: (usize, &str),
 ) -> Result<Vec<u8>, NoMemory> {
@@ -67,6 +70,8 @@ fn text_with(
             first.1
         } else if place == second.0 {
             second.1
+        } else if *sound == "TRIANGLES" {
+            mode
         } else {
             sound
         };
@@ -75,20 +80,68 @@ fn text_with(
     Ok(text)
 }
 
+const MODES: [&str; 3] = ["TRIANGLES", "ATTRIBUTES", "INDICES"];
+
 #[test]
 fn a_view_without_a_fault_is_read(rt: HostRuntime) -> Result<(), Fail> {
-    assert_eq!(rt; fault_with(rt.alloc(), (1, "24"), (1, "24"))?, None);
+    for mode in MODES {
+        assert_eq!(rt; fault_with(rt.alloc(), mode, (1, "24"), (1, "24"))?, None);
+    }
     Ok(())
 }
 
 // The table is in the order of faults, so of two conditions the one that stands first is told.
 #[test]
 fn the_first_of_two_conditions_decides(rt: HostRuntime) -> Result<(), Fail> {
-    for (at, (place, piece, fault)) in CONDITIONS.iter().enumerate() {
-        for (other, with, _) in &CONDITIONS[at..] {
-            let found = fault_with(rt.alloc(), (*place, piece), (*other, with))?;
-            assert_eq!(rt; found, Some(AssetRefusal::Fault(*fault)), "{piece} {with}");
+    for mode in MODES {
+        for (at, (place, piece, fault)) in CONDITIONS.iter().enumerate() {
+            for (other, with, _) in &CONDITIONS[at..] {
+                let found = fault_with(rt.alloc(), mode, (*place, piece), (*other, with))?;
+                assert_eq!(rt;
+                    found,
+                    Some(AssetRefusal::Fault(*fault)),
+                    "{mode} {piece} {with}"
+                );
+            }
         }
+    }
+    Ok(())
+}
+
+// Buffers with another extension and a second fault, and views that are empty and something else.
+const OTHERS: [(&str, AssetFault); 6] = [
+    (
+        r#"{"buffers":[{"byteLength":4,"extensions":{"x":1}}],"bufferViews":[{"buffer":0,"byteLength":4}]}"#,
+        AssetFault::Buffer { at: 0 },
+    ),
+    (
+        r#"{"buffers":[{"byteLength":4,"uri":"data:application/gltf-buffer;base64,A","extensions":{"x":1}}],"bufferViews":[{"buffer":0,"byteLength":4}]}"#,
+        AssetFault::Buffer { at: 0 },
+    ),
+    (
+        r#"{"buffers":[{"byteLength":4,"uri":"data:application/gltf-buffer;base64,AQ==","extensions":{"x":1}}],"bufferViews":[{"buffer":0,"byteLength":4}]}"#,
+        AssetFault::Buffer { at: 0 },
+    ),
+    (
+        r#"{"buffers":[{"byteLength":4,"uri":"data:application/gltf-buffer;base64,AQIDBA=="}],"bufferViews":[{"buffer":0,"byteOffset":5,"byteLength":0}]}"#,
+        VIEW,
+    ),
+    (
+        r#"{"buffers":[{"byteLength":4,"uri":"data:application/gltf-buffer;base64,AQIDBA=="}],"bufferViews":[{"buffer":0,"byteLength":0,"byteStride":6}]}"#,
+        VIEW,
+    ),
+    (
+        r#"{"buffers":[{"byteLength":4,"uri":"data:application/gltf-buffer;base64,AQIDBA=="}],"bufferViews":[{"buffer":0,"byteLength":5,"byteStride":6}]}"#,
+        VIEW,
+    ),
+];
+
+#[test]
+fn a_second_condition_changes_no_fault(rt: HostRuntime) -> Result<(), Fail> {
+    for (text, fault) in OTHERS {
+        let tree = read(rt.alloc(), text.as_bytes())?;
+        let found = read_asset(rt.alloc(), &tree, None, Form::Any).err();
+        assert_eq!(rt; found, Some(AssetRefusal::Fault(fault)), "{text}");
     }
     Ok(())
 }
