@@ -4,7 +4,7 @@ use Rattle.std.specs.Str.{chars}
 use Rattle.gp_json.specs.Plain.{PlainTree, number, text, list, members, no_items, no_members, member}
 use Rattle.gp_glb.specs.Bytes.{word, chunk_bytes, header, headed, padded}
 use Rattle.gp_glb.specs.Container.{glb}
-use Rattle.gp_pack.specs.Document.{glb_of}
+use Rattle.gp_document.specs.Document.{glb_of}
 use Rattle.gp_pack.specs.Packed.{packed, packed_tree}
 use Rattle.gp_pack.specs.Same.{common}
 

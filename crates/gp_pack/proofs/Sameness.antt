@@ -1,35 +1,18 @@
 -- What packing writes is the same asset.
-use Rattle.std.proofs.Common.{◌≡◌, ℕ, ◌<◌, ◌^◌, Bool, true, false, cond, find, option_map, Some, List, [], ◌∷◌, ◌++◌, length, replicate, None, codes, refl, sym, ap, ◌∙◌, subst, append_assoc, arith, zero, suc, inl}
+use Rattle.std.proofs.Common.{◌≡◌, ℕ, ◌<◌, ◌^◌, Bool, true, false, cond, find, option_map, Some, List, [], ◌∷◌, length, None, Ok, codes, refl, sym, ap, ◌∙◌, subst}
 use Rattle.gp_json.specs.Plain.{PlainTree, null, truth, number, text as a_text, list as a_list, members, members_of}
 use Rattle.gp_json.specs.Find.{PlainMember, is_named, member_list, value_of, find_member}
 use Rattle.gp_json.specs.Sound.{HasDistinctKeys}
 use Rattle.gp_json.specs.TreeEdits.{remove_first, without}
-use Rattle.gp_json.specs.Lexical.{IsSpace, IsBlank}
-use Rattle.gp_json.specs.Spelling.{Spells}
-use Rattle.gp_json.specs.Text.{text_of}
-use Rattle.gp_json.proofs.Compact.{compact_spells}
-use Rattle.gp_json.proofs.Unique.{each_append}
 use Rattle.gp_json.proofs.Inner.{members_back}
 use Rattle.gp_json.proofs.Kept.{sound_remove, find_removed}
-use Rattle.gp_glb.specs.Bytes.{padded, missing}
-use Rattle.gp_glb.proofs.ReadingBack.{has_length, rests_are_kept}
-use Rattle.gp_pack.specs.Document.{Document, Holds, IsDocument, glb_of}
-use Rattle.gp_pack.specs.Packed.{packed, packed_tree}
+use Rattle.gp_asset.specs.declared.storage.View.{View}
+use Rattle.gp_document.specs.Document.{Document, IsDocument, glb_of}
+use Rattle.gp_document.specs.Operation.{Made}
+use Rattle.gp_document.proofs.Written.{holds_written}
+use Rattle.gp_pack.specs.Packed.{packed, packed_tree, packed_with}
 use Rattle.gp_pack.specs.Same.{Same}
 use Rattle.gp_pack.specs.Laws.{PackedIsSame}
-
-spaces : (n : ℕ) → IsSpace (replicate n 32)
-spaces zero = tt
-spaces (suc n) = (inl refl, spaces n)
-
--- white space behind a text changes nothing
-spaced_text : (text space : List ℕ) (t : PlainTree) → IsSpace space → Spells text t → Spells (text ++ space) t
-spaced_text text space t blank (a, v, c, ha, hv, hc, e) =
-    (a, v, c ++ space, ha, hv, each_append IsBlank c space hc blank, ap (λ s. s ++ space) e ∙ append_assoc (a ++ v) c space)
-
-padded_spells : (text : List ℕ) (t : PlainTree) → Spells text t → Spells (padded 32 text) t
-unfolding padded
-padded_spells text t h = spaced_text text (replicate (missing (length text)) 32) t (spaces (missing (length text))) h
 
 -- ---- what is taken out twice is taken out once
 
@@ -54,31 +37,30 @@ without_absent key (a_list ts) none = refl
 pub without_twice : (key : List ℕ) (t : PlainTree) → HasDistinctKeys t → without key (without key t) ≡ without key t
 without_twice key t distinct = without_absent key (without key t) (find_removed key t distinct)
 
--- the container of a packed document holds it
-holds_packed : (bytes : List ℕ) (d : Document) → Holds bytes d → length (glb_of (packed d)) < 2 ^ 32 → Holds (glb_of (packed d)) (packed d)
-unfolding packed packed_tree glb_of
-holds_packed bytes d h fits =
-    let t = without (codes "buffers") d.tree in
-    let sound = sound_remove (codes "buffers") d.tree h.sound in
-    let text = text_of t in
-    let long = has_length text None d.rest in
-    record {
-      json = padded 32 text;
-      container = rests_are_kept bytes (record { json = h.json; bin = d.bin; rest = d.rest }) text None h.container (omega (arith, long, fits));
-      spelled = padded_spells text t (compact_spells t sound.spelled);
-      sound = sound;
-    }
+-- ---- the document that is packed
 
-same_packed : (bytes : List ℕ) (d : Document) → (h : Holds bytes d) → length (glb_of (packed d)) < 2 ^ 32 → IsDocument bytes d → Same bytes (glb_of (packed d))
+same_packed : (bytes : List ℕ) (d : Document) → IsDocument bytes d → length (glb_of (packed d)) < 2 ^ 32 → Same bytes (glb_of (packed d))
 unfolding packed packed_tree
-same_packed bytes d h fits is = record {
+same_packed bytes d is fits = record {
   input = d;
   output = packed d;
   is_input = is;
-  is_output = holds_packed bytes d h fits;
+  is_output = holds_written bytes d (without (codes "buffers") d.tree) None is.holds (sound_remove (codes "buffers") d.tree is.holds.sound) fits;
   rest = refl;
-  trees = without_twice (codes "buffers") d.tree h.sound.distinct;
+  trees = without_twice (codes "buffers") d.tree is.holds.sound.distinct;
 }
 
+made_is : (views : List View) (d : Document) (made : Made) → packed_with views d ≡ Ok made → packed d ≡ made.document
+unfolding packed_with
+made_is [] d made e =
+    let same : record { document = packed d; views = 0; streams = 0 } ≡ made = cc in
+    ap (λ (m : Made). m.document) same
+made_is (v ∷ views) d made e = absurd (cc)
+
 pub packed_is_same : PackedIsSame
-packed_is_same bytes out h = subst (Same bytes) (sym h.glb) (same_packed bytes h.accepted.document h.accepted.is_document.holds h.fits h.accepted.is_document)
+packed_is_same bytes out h =
+    let d = h.accepted.document in
+    let e = made_is h.accepted.asset.views d h.made h.is_made in
+    let fits : length (glb_of (packed d)) < 2 ^ 32 = subst (λ w. length (glb_of w) < 2 ^ 32) (sym e) h.output.fits in
+    let glb : glb_of (packed d) ≡ out.glb = ap glb_of e ∙ sym h.output.glb in
+    subst (Same bytes) glb (same_packed bytes d h.accepted.is_document fits)

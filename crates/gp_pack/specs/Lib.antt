@@ -1,9 +1,3 @@
-pub mod Document
-pub mod Accepted
 pub mod Packed
-pub mod Faults
-pub mod Answers
-pub mod Reading
-pub mod Writing
 pub mod Same
 pub mod Laws

@@ -2,7 +2,7 @@
 use Rattle.std.specs.Prelude.{◌≡◌, ℕ, List, codes}
 use Rattle.gp_json.specs.Plain.{PlainTree}
 use Rattle.gp_json.specs.TreeEdits.{without}
-use Rattle.gp_pack.specs.Document.{Document, Holds, IsDocument}
+use Rattle.gp_document.specs.Document.{Document, Holds, IsDocument}
 
 -- what both trees have in common: all but the root member that packing rewrites
 abbrev pub common : PlainTree → PlainTree

@@ -1,3 +1,14 @@
 pub mod Each
 pub mod Shapes
 pub mod Views
+pub mod Lengths
+pub mod Drawn
+pub mod Whole
+pub mod Places
+pub mod Again
+pub mod Plain
+pub mod CommonTree
+pub mod SoundTree
+pub mod Keeping
+pub mod Changes
+pub mod Finishing

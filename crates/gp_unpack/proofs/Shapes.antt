@@ -8,6 +8,7 @@ use Rattle.gp_json.specs.Find.{is_named}
 use Rattle.gp_fields.specs.Fields.{BufferFields, ViewFields, PackedFields, AccessorFields}
 use Rattle.gp_fields.specs.Record.{AssetFields, asset_fields}
 use Rattle.gp_asset.specs.declared.fault.Form.{Form}
+use Rattle.gp_asset.specs.declared.fault.Form.TheVariants.{Any}
 use Rattle.gp_asset.specs.declared.fault.AssetFault.{AssetFault}
 use Rattle.gp_asset.specs.declared.fault.AssetFault.TheVariants.{View as BadView, Extension, Filter, TooMuchData}
 use Rattle.gp_asset.specs.declared.accessing.Accessor.{Accessor}
@@ -21,19 +22,21 @@ use Rattle.gp_asset.specs.Asset.{AssetParts, RuledParts, asset, by_rules, parts,
 use Rattle.gp_asset.specs.Extensions.{extensions_in_use, supported}
 use Rattle.gp_asset.specs.Buffers.{buffer_of}
 use Rattle.gp_asset.specs.Accessors.{accessor_of, is_too_much}
+use Rattle.gp_document.specs.Document.{Document}
+use Rattle.gp_document.specs.Accepted.{asset_of}
 use Rattle.gp_unpack.specs.Contents.{HasShape, HaveShapes}
 use Rattle.gp_unpack.specs.Laws.{AssetsHaveShapes}
 
 -- a check that lets a value through has found the value of its first step
-step : {A B : Type 0} {P : Type 0} (first : Checked A) (f : A → Checked B) (b : B) → first >>= f ≡ Ok b → ((a : A) → first ≡ Ok a → f a ≡ Ok b → P) → P
+pub step : {A B : Type 0} {P : Type 0} (first : Checked A) (f : A → Checked B) (b : B) → first >>= f ≡ Ok b → ((a : A) → first ≡ Ok a → f a ≡ Ok b → P) → P
 step (Ok a) f b e then_holds = then_holds a refl e
 step (Err fault) f b e then_holds = absurd (cc)
 
-passes : {A P : Type 0} (condition : Bool) (fault : AssetFault) (rest : Checked A) (a : A) → unless condition fault rest ≡ Ok a → (condition ≡ false → rest ≡ Ok a → P) → P
+pub passes : {A P : Type 0} (condition : Bool) (fault : AssetFault) (rest : Checked A) (a : A) → unless condition fault rest ≡ Ok a → (condition ≡ false → rest ≡ Ok a → P) → P
 passes true fault rest a e then_holds = absurd (cc)
 passes false fault rest a e then_holds = then_holds refl e
 
-same : {A : Type 0} (x y : A) → ◌≡◌ {A = Checked A} (Ok x) (Ok y) → x ≡ y
+pub same : {A : Type 0} (x y : A) → ◌≡◌ {A = Checked A} (Ok x) (Ok y) → x ≡ y
 same x y e = cc
 
 -- what a check says of each item holds for all
@@ -53,11 +56,11 @@ sound false true true y z e = (refl, refl)
 sound false true false y z e = absurd (cc)
 sound false false c y z e = absurd (cc)
 
-shape : (buffers : List BufferFields) (v : ViewFields) (p : PackedFields) (mode : StreamMode) → is_bad_packed buffers v p mode ≡ false → (is_stride_in mode p.stride ≡ true) × (is_count_in mode p.count ≡ true)
+pub shape : (buffers : List BufferFields) (v : ViewFields) (p : PackedFields) (mode : StreamMode) → is_bad_packed buffers v p mode ≡ false → (is_stride_in mode p.stride ≡ true) × (is_count_in mode p.count ≡ true)
 unfolding is_bad_packed
 shape buffers v p mode e = sound _ (is_stride_in mode p.stride) (is_count_in mode p.count) _ _ e
 
-abbrev kept : PackedFields → StreamMode → Packed
+abbrev pub kept : PackedFields → StreamMode → Packed
 kept p mode = record { buffer = p.buffer; offset = p.offset; length = p.length; stride = p.stride; count = p.count; mode = mode }
 
 packed_with_has : (buffers : List BufferFields) (at : ℕ) (v : ViewFields) (p : PackedFields) (mode : Option StreamMode) (packed : Option Packed) → packed_with buffers at v p mode ≡ Ok packed → IfSome packed HasShape
@@ -72,7 +75,7 @@ packed_has : (buffers : List BufferFields) (at : ℕ) (v : ViewFields) (p : Opti
 packed_has buffers at v None packed e = let is : None ≡ packed = cc in subst (λ o. IfSome o HasShape) is tt
 packed_has buffers at v (Some p) packed e = packed_with_has buffers at v p (mode_of p.mode) packed e
 
-abbrev with_packed : ViewFields → Option Packed → View
+abbrev pub with_packed : ViewFields → Option Packed → View
 with_packed v packed = record { buffer = v.buffer; offset = v.offset; length = v.length; stride = v.stride; packed = packed }
 
 view_has : (buffers : List BufferFields) (at : ℕ) (v : ViewFields) (y : View) → view_of buffers at v ≡ Ok y → IfSome y.packed HasShape
@@ -85,16 +88,16 @@ view_has buffers at v y e =
 -- ---- all views
 
 -- what is left after the accessors, after the views, and after the buffers
-abbrev ruled_by : List (Option (List ℕ)) → List View → List Accessor → RuledParts
+abbrev pub ruled_by : List (Option (List ℕ)) → List View → List Accessor → RuledParts
 ruled_by bs vs xs = record { buffers = bs; views = vs; accessors = xs }
 
-abbrev load_on : List (Option (List ℕ)) → List View → List Accessor → Checked RuledParts
+abbrev pub load_on : List (Option (List ℕ)) → List View → List Accessor → Checked RuledParts
 load_on bs vs xs = unless (is_too_much vs xs) TooMuchData (Ok (ruled_by bs vs xs))
 
-abbrev accessors_on : List AccessorFields → List (Option (List ℕ)) → List View → Checked RuledParts
+abbrev pub accessors_on : List AccessorFields → List (Option (List ℕ)) → List View → Checked RuledParts
 accessors_on accessors bs vs = each (accessor_of vs) 0 accessors >>= λ xs. load_on bs vs xs
 
-abbrev views_on : List BufferFields → List ViewFields → List AccessorFields → List (Option (List ℕ)) → Checked RuledParts
+abbrev pub views_on : List BufferFields → List ViewFields → List AccessorFields → List (Option (List ℕ)) → Checked RuledParts
 views_on buffers views accessors bs = each (view_of buffers) 0 views >>= λ vs. accessors_on accessors bs vs
 
 ruled_have : (buffers : List BufferFields) (views : List ViewFields) (accessors : List AccessorFields) (bin : Option (List ℕ)) (ruled : RuledParts) → by_rules buffers views accessors bin ≡ Ok ruled → HaveShapes ruled.views
@@ -109,10 +112,10 @@ ruled_have buffers views accessors bin ruled e =
 
 -- ---- all of an asset
 
-abbrev rules_on : AssetFields → Option (List ℕ) → List (List ℕ) → Checked AssetParts
+abbrev pub rules_on : AssetFields → Option (List ℕ) → List (List ℕ) → Checked AssetParts
 rules_on fields bin used = by_rules fields.buffers fields.views fields.accessors bin >>= λ ruled. Ok (parts fields used ruled)
 
-abbrev supported_on : Form → PlainTree → Option (List ℕ) → AssetFields → Checked AssetParts
+abbrev pub supported_on : Form → PlainTree → Option (List ℕ) → AssetFields → Checked AssetParts
 supported_on form t bin fields = supported form (extensions_in_use t) >>= λ used. rules_on fields bin used
 
 pub assets_have_shapes : AssetsHaveShapes
@@ -123,3 +126,8 @@ assets_have_shapes form t bin a e =
     step (by_rules fields.buffers fields.views fields.accessors bin) (λ ruled. Ok (parts fields used ruled)) a more2 (λ ruled e3 whole.
     subst HaveShapes (ap (λ (x : AssetParts). x.views) (same (parts fields used ruled) a whole))
     (ruled_have fields.buffers fields.views fields.accessors bin ruled e3))))
+
+-- the same of the asset of a document
+pub accepted_have_shapes : (d : Document) (a : AssetParts) → asset_of Any d ≡ Ok a → HaveShapes a.views
+unfolding asset_of
+accepted_have_shapes d a is = assets_have_shapes Any d.tree d.bin a is

@@ -1,2 +1,5 @@
 pub mod Contents
+pub mod PlainFields
+pub mod Unpacked
+pub mod Kept
 pub mod Laws

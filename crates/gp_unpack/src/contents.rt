@@ -1,5 +1,5 @@
 // The bytes of all views of an asset.
-ghost use Rattle.std.specs.Prelude.{◌≡◌};
+ghost use Rattle.std.specs.Prelude.{◌≡◌, length};
 
 use gp_asset::ViewBytes;
 use gp_host::Bytes;
@@ -25,6 +25,13 @@ impl Contents {
         ensures { result ≡ views.items }
     {
         Contents { views }
+    }
+
+    /// How many views there are.
+    pub fn len(&self) -> usize
+        ensures { result ≡ length self.now }
+    {
+        self.views.len()
     }
 }
 

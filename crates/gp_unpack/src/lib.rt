@@ -1,16 +1,22 @@
-//! The bytes of the buffer views of an asset of glTF 2.0, those of compressed forms (EXT_meshopt_compression) decoded.
+//! Unpacking of glTF assets: every buffer view plain, those of compressed forms (EXT_meshopt_compression) decoded.
 //!
-//! [`decode_views`] gives the bytes of every view of an asset, or the first view whose stream has a fault.
+//! [`unpack`] takes a file of bytes and gives a GLB with the contents of all views in one buffer, or the input's first
+//! fault. [`decode_views`] gives the bytes of every view of an asset, or the first view whose stream has a fault. [`laws`]
+//! says what unpacking keeps.
 //!
-//! - `contents`: the bytes of all views, as [`gp_asset::ViewBytes`]. - `decoding`: one stream, one view, all views.
-//! - `laws`: what every asset that is read meets.
+//! - `contents`: the bytes of all views, as [`gp_asset::ViewBytes`]. - `decoding`: one stream, one view, all views. -
+//!   `unpacking`: the call. - `editing`: the JSON. - `laws`: what the definitions promise.
 #![tactic(auto)]
 
 mod contents;
 mod decoding;
+mod editing;
 pub mod laws;
 #[cfg(test)]
 mod tests;
+mod unpacking;
 
 pub use contents::Contents;
 pub use decoding::decode_views;
+pub use gp_document::Output as UnpackOut;
+pub use unpacking::unpack;

@@ -1,0 +1,7 @@
+pub mod Answering
+pub mod Documents
+pub mod Few
+pub mod Lengths
+pub mod OneAnswer
+pub mod Whole
+pub mod Written

@@ -1,0 +1,20 @@
+pub mod Members
+pub mod KeyNames
+pub mod Emptied
+pub mod EmptiedMembers
+pub mod Empties
+pub mod Texts
+pub mod CommonViews
+pub mod CommonRoots
+pub mod Sounds
+pub mod Named
+pub mod FieldsBack
+pub mod KeysBack
+pub mod ViewsBack
+pub mod ItemsBack
+pub mod NamesBack
+pub mod AssetsBack
+pub mod PlainBack
+pub mod EachView
+pub mod ViewsIn
+mod Examples

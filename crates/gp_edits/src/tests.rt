@@ -1,0 +1,65 @@
+//! Each edit once, from text to text.
+use crate::{place_view, remove_compression, remove_extension_names, set_one_buffer};
+use gp_json::{print, read};
+use std::test::Fail;
+
+#[test]
+fn a_view_is_placed(rt: HostRuntime) -> Result<(), Fail> {
+    let alloc = rt.alloc();
+    let mut view = read(alloc, br#"{"buffer":1, "byteLength":3}"#)?;
+    place_view(alloc, &mut view, 0, 8)?;
+    let text = print(alloc, &view)?;
+    assert_eq!(rt;
+        text.as_slice(),
+        br#"{"buffer":0,"byteLength":3,"byteOffset":8}"#.as_slice()
+    );
+    Ok(())
+}
+
+#[test]
+fn a_form_is_removed(rt: HostRuntime) -> Result<(), Fail> {
+    let alloc = rt.alloc();
+    let mut view = read(
+        alloc,
+        br#"{"buffer":0,"extensions":{"EXT_meshopt_compression":{"buffer":1}},"byteLength":3}"#,
+    )?;
+    remove_compression(&mut view);
+    let text = print(alloc, &view)?;
+    assert_eq!(rt;
+        text.as_slice(),
+        br#"{"buffer":0,"byteLength":3}"#.as_slice()
+    );
+    Ok(())
+}
+
+#[test]
+fn one_buffer_is_left(rt: HostRuntime) -> Result<(), Fail> {
+    let alloc = rt.alloc();
+    let mut root = read(
+        alloc,
+        br#"{"asset":{},"buffers":[{"byteLength":3},{"uri":"a"}],"scene":0}"#,
+    )?;
+    set_one_buffer(alloc, &mut root, 1234)?;
+    let text = print(alloc, &root)?;
+    assert_eq!(rt;
+        text.as_slice(),
+        br#"{"asset":{},"buffers":[{"byteLength":1234}],"scene":0}"#.as_slice()
+    );
+    Ok(())
+}
+
+#[test]
+fn the_name_is_removed(rt: HostRuntime) -> Result<(), Fail> {
+    let alloc = rt.alloc();
+    let mut root = read(
+        alloc,
+        br#"{"extensionsUsed":["\u0045XT_meshopt_compression","KHR_x","EXT_meshopt_compression"],"extensionsRequired":["EXT_meshopt_compression"]}"#,
+    )?;
+    remove_extension_names(alloc, &mut root);
+    let text = print(alloc, &root)?;
+    assert_eq!(rt;
+        text.as_slice(),
+        br#"{"extensionsUsed":["KHR_x"]}"#.as_slice()
+    );
+    Ok(())
+}

@@ -1,0 +1,75 @@
+// Parts in a row.
+ghost use Rattle.std.specs.Prelude.{◌≡◌, IfOk, OnOk};
+ghost use Rattle.gp_layout.specs.Row.{row_of, with_part, padded, HasEach, held};
+
+use gp_asset::ViewBytes;
+use gp_host::NoMemory;
+use std::alloc::Global;
+use std::marker::Model;
+
+/// Parts in a row, each at the next multiple of 4, with zeros in the gaps.
+#[derive(Drop)]
+pub struct Row {
+    bytes: Vec<u8>,
+    starts: Vec<usize>,
+}
+
+impl Model for Row {
+    ghost use Rattle.gp_layout.specs.Row.{RowParts};
+
+    ghost Value = { RowParts };
+
+    ghost view = { λ row. record { bytes = row.bytes.items; starts = row.starts.items } };
+}
+
+/// The bytes of these views in a row: `count` of them, each of which has bytes.
+pub fn lay<V: ViewBytes>(alloc: Global, views: &V, count: usize) -> Result<Row, NoMemory>
+    requires { HasEach (V.views views.now) count }
+    ensures { IfOk result (λ row. row ≡ row_of (held (V.views views.now))) }
+{
+    let mut row = Row {
+        bytes: Vec::new(alloc),
+        starts: Vec::new(alloc),
+    };
+    'views: for at in 0..count {
+        row.append(views.view(at))?;
+    }
+    Ok(row)
+}
+
+impl Row {
+    /// The bytes, up to the end of the last part.
+    pub fn bytes(&self) -> &[u8]
+        ensures { result.now ≡ self.now.bytes }
+    {
+        self.bytes.as_slice()
+    }
+
+    /// Where each part begins.
+    pub fn starts(&self) -> &[usize]
+        ensures { result.now ≡ self.now.starts }
+    {
+        self.starts.as_slice()
+    }
+
+    // Puts a part behind the others.
+    fn append(&mut self, part: &[u8]) -> Result<(), NoMemory>
+        ensures { OnOk result (self.new ≡ with_part self.old part.now) }
+    {
+        pad(&mut self.bytes)?;
+        self.starts.push(self.bytes.len())?;
+        self.bytes.extend_from_slice(part)?;
+        Ok(())
+    }
+}
+
+// Puts zeros behind bytes, up to the next multiple of 4.
+fn pad(bytes: &mut Vec<u8>) -> Result<(), NoMemory>
+    ensures { OnOk result (bytes.new.items ≡ padded bytes.old.items) }
+{
+    let past = bytes.len() % 4;
+    if past > 0 {
+        bytes.resize(bytes.len() + (4 - past), 0)?;
+    }
+    Ok(())
+}
