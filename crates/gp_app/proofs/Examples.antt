@@ -6,14 +6,18 @@ use Rattle.gp_glb.specs.declared.fault.GlbFault.TheVariants.{Chunk}
 use Rattle.gp_json.specs.declared.fault.JsonFault.TheVariants.{DuplicateKey}
 use Rattle.gp_asset.specs.declared.refusal.Refusal.TheVariants.{Glb, Json}
 use Rattle.gp_app.specs.Words.{command}
-use Rattle.gp_app.specs.Lines.{packed_line, line_of_refusal}
+use Rattle.gp_app.specs.Lines.{done_line, packed_line, line_of_refusal}
 use Rattle.gp_app.specs.Status.{exit_code}
-use Rattle.gp_app.specs.declared.commands.Command.TheVariants.{Pack}
+use Rattle.gp_app.specs.declared.commands.Command.TheVariants.{Pack, Unpack}
 use Rattle.gp_app.specs.declared.status.Status.TheVariants.{Done, Memory}
 
 pack_is_a_command : command (codes "pack" ∷ []) ≡ Some Pack
 unfolding command
 pack_is_a_command = refl
+
+unpack_is_a_command : command (codes "unpack" ∷ []) ≡ Some Unpack
+unfolding command
+unpack_is_a_command = refl
 
 no_words_are_none : command [] ≡ None
 unfolding command
@@ -28,9 +32,9 @@ unfolding command
 other_words_are_none = refl
 
 -- 72 bytes of output for 76 bytes of input
-done_line : packed_line (record { glb = replicate 72 0; views = 0; packed = 0 }) 76 ≡ codes "packed views 0 of 0 in 76 out 72\n"
-unfolding packed_line
-done_line =
+packed_done : packed_line (record { glb = replicate 72 0; views = 0; packed = 0 }) 76 ≡ codes "packed views 0 of 0 in 76 out 72\n"
+unfolding done_line
+packed_done =
     let none : decimal 0 ≡ codes "0" = decimal_digit 0 (omega arith) in
     let taken : decimal 76 ≡ codes "76" = decimal_two 76 (omega arith) (omega arith) in
     let written : decimal 72 ≡ codes "72" = decimal_two 72 (omega arith) (omega arith) in

@@ -1,11 +1,14 @@
--- From how a run ends to the headline of packing.
+-- From how a run ends to the headline of packing, and to what unpacking keeps.
 use Rattle.std.proofs.Common.{◌≡◌, ◌≢◌, ◌⊎◌, inl, inr, ℕ, ◌+◌, ◌<◌, ◌≤◌, ◌^◌, List, ◌++◌, length, None, Some, Option, MatchOption, refl, sym, ap, ◌∙◌, subst, arith, append-nil, length-append}
 use Rattle.std.specs.Io.KnownBytes.{Consumes, IsAtEnd}
 use Rattle.gp_host.specs.Causes.{Rose}
 use Rattle.gp_host.specs.Sink.{SinkAt}
-use Rattle.gp_pack.specs.Faults.{HasFault}
+use Rattle.gp_document.specs.Faults.{HasFault}
+use Rattle.gp_pack.specs.Packed.{packing}
 use Rattle.gp_pack.specs.Same.{Same}
 use Rattle.gp_pack.proofs.Sameness.{packed_is_same}
+use Rattle.gp_unpack.specs.Kept.{KeepsViews}
+use Rattle.gp_unpack.proofs.Keeping.{unpacked_keeps_views}
 use Rattle.gp_asset.specs.declared.refusal.Refusal.{Refusal}
 use Rattle.gp_app.specs.Words.{command}
 use Rattle.gp_app.specs.Lines.{too_large_line, line_of_refusal}
@@ -14,9 +17,9 @@ use Rattle.gp_app.specs.Written.{WroteAll, Says}
 use Rattle.gp_app.specs.Work.{Made, Makes, Refuses}
 use Rattle.gp_app.specs.Delivered.{LineFails}
 use Rattle.gp_app.specs.Ends.{Ends, CommandEnds, NoCommandEnds, EndsDone, EndsTooLarge, EndsFaulty}
-use Rattle.gp_app.specs.Headline.{ReportsFault, WritesSame, KeepsAsset, Headline}
+use Rattle.gp_app.specs.Headline.{ReportsFault, WritesSame, KeepsAsset, Headline, KeepsContents}
 use Rattle.gp_app.specs.declared.commands.Command.{Command}
-use Rattle.gp_app.specs.declared.commands.Command.TheVariants.{Pack}
+use Rattle.gp_app.specs.declared.commands.Command.TheVariants.{Pack, Unpack}
 use Rattle.gp_app.specs.declared.status.Status.{Status}
 use Rattle.gp_app.specs.declared.status.Status.TheVariants.{Done, Refused, Usage, Outside, Memory}
 
@@ -65,15 +68,28 @@ done_same before after done = record {
 }
 
 -- how the command of these words ends
-ends_pack : (words : List (List ℕ)) (before after : Moment) (status : Status) → command words ≡ Some Pack → Ends words before after status → CommandEnds Pack before after status
-ends_pack words before after status is ends =
+ends_as : (words : List (List ℕ)) (asked : Command) (before after : Moment) (status : Status) → command words ≡ Some asked → Ends words before after status → CommandEnds asked before after status
+ends_as words asked before after status is ends =
     let P : Option Command → Type 0 = λ o. MatchOption o (NoCommandEnds before after status) (λ asked. CommandEnds asked before after status) in
     subst P is ends
 
 pub keeps_asset : (words : List (List ℕ)) (before after : Moment) (status : Status) → Ends words before after status → KeepsAsset words before after status
 keeps_asset words before after status ends is done =
-    let own = subst (CommandEnds Pack before after) done (ends_pack words before after status is ends) in
+    let own = subst (CommandEnds Pack before after) done (ends_as words Pack before after status is ends) in
     (own.bytes, done_same before after own)
+
+-- ---- unpacking
+
+kept_made : (bytes : List ℕ) (made : Made) → Makes Unpack bytes made → KeepsViews bytes made.out
+unfolding Makes
+kept_made bytes made (out, is, e) = subst (KeepsViews bytes) (sym (ap (λ (m : Made). m.out) e)) (unpacked_keeps_views bytes out is)
+
+pub keeps_contents : (words : List (List ℕ)) (before after : Moment) (status : Status) → Ends words before after status → KeepsContents words before after status
+keeps_contents words before after status ends is done =
+    let own = subst (CommandEnds Unpack before after) done (ends_as words Unpack before after status is ends) in
+    (own.bytes, record { read = own.taken; glb = own.made.out; written = own.written; kept = kept_made own.bytes own.made own.makes })
+
+-- ---- the headline
 
 reports_large : (bytes : List ℕ) (before after : Moment) → before.input.left ≡ Some bytes → NoneRose before after → EndsTooLarge before after → ReportsFault bytes before after Refused
 reports_large bytes before after left steady ends = record {
@@ -84,7 +100,7 @@ reports_large bytes before after left steady ends = record {
   untouched = ends.untouched;
 }
 
-has_fault : (bytes : List ℕ) (refusal : Refusal) → Refuses Pack bytes refusal → HasFault bytes refusal
+has_fault : (bytes : List ℕ) (refusal : Refusal) → Refuses Pack bytes refusal → HasFault packing bytes refusal
 unfolding Refuses
 has_fault bytes refusal h = h
 
@@ -94,7 +110,7 @@ reports_fault bytes before after left steady ends =
     record {
       refused = refl;
       line = line_of_refusal ends.refusal;
-      fault = inr (subst (λ b. length b ≤ 2 ^ 29) all ends.taken.fits, (ends.refusal, subst (λ b. HasFault b ends.refusal) all (has_fault ends.bytes ends.refusal ends.first), refl));
+      fault = inr (subst (λ b. length b ≤ 2 ^ 29) all ends.taken.fits, (ends.refusal, subst (λ b. HasFault packing b ends.refusal) all (has_fault ends.bytes ends.refusal ends.first), refl));
       told = says_all before.report after.report (line_of_refusal ends.refusal) steady.report ends.told;
       untouched = ends.untouched;
     }
@@ -113,4 +129,4 @@ by_status bytes before after Outside left steady memory (inr (inr report)) = abs
 by_status bytes before after Memory left steady memory ends = absurd (memory refl)
 
 pub headline : (words : List (List ℕ)) (before after : Moment) (status : Status) → Ends words before after status → Headline words before after status
-headline words before after status ends bytes is left steady memory = by_status bytes before after status left steady memory (ends_pack words before after status is ends)
+headline words before after status ends bytes is left steady memory = by_status bytes before after status left steady memory (ends_as words Pack before after status is ends)

@@ -1,15 +1,17 @@
 -- The headline of packing: whatever bytes the source gives, where memory is found and no count of faults rises, the run reports
--- their first fault and writes nothing, or it writes a file that is the same asset.
+-- their first fault and writes nothing, or it writes a file that is the same asset. And what unpacking keeps.
 use Rattle.std.specs.Prelude.{◌≡◌, ◌≢◌, ◌⊎◌, ℕ, ◌<◌, ◌≤◌, ◌^◌, List, length, Some}
-use Rattle.gp_pack.specs.Faults.{HasFault}
+use Rattle.gp_document.specs.Faults.{HasFault}
+use Rattle.gp_pack.specs.Packed.{packing}
 use Rattle.gp_pack.specs.Same.{Same}
+use Rattle.gp_unpack.specs.Kept.{KeepsViews}
 use Rattle.gp_asset.specs.declared.refusal.Refusal.{Refusal}
 use Rattle.gp_app.specs.Words.{command}
 use Rattle.gp_app.specs.Lines.{too_large_line, line_of_refusal}
 use Rattle.gp_app.specs.Moment.{Moment, NoneRose}
 use Rattle.gp_app.specs.Input.{ReadToEnd}
 use Rattle.gp_app.specs.Written.{WroteAll}
-use Rattle.gp_app.specs.declared.commands.Command.TheVariants.{Pack}
+use Rattle.gp_app.specs.declared.commands.Command.TheVariants.{Pack, Unpack}
 use Rattle.gp_app.specs.declared.status.Status.{Status}
 use Rattle.gp_app.specs.declared.status.Status.TheVariants.{Done, Refused, Memory}
 
@@ -17,7 +19,7 @@ use Rattle.gp_app.specs.declared.status.Status.TheVariants.{Done, Refused, Memor
 abbrev pub TellsFault : List ℕ → List ℕ → Type 0
 TellsFault bytes line =
     ((2 ^ 29 < length bytes) × (line ≡ too_large_line))
-    ⊎ ((length bytes ≤ 2 ^ 29) × ((refusal : Refusal) × HasFault bytes refusal × (line ≡ line_of_refusal refusal)))
+    ⊎ ((length bytes ≤ 2 ^ 29) × ((refusal : Refusal) × HasFault packing bytes refusal × (line ≡ line_of_refusal refusal)))
 
 -- the first fault was reported, and nothing was written to the output
 pub record ReportsFault (bytes : List ℕ) (before after : Moment) (status : Status) : Type 0 where
@@ -41,3 +43,16 @@ KeepsAsset words before after status = command words ≡ Some Pack → status �
 abbrev pub Headline : List (List ℕ) → Moment → Moment → Status → Type 0
 Headline words before after status = (bytes : List ℕ) → command words ≡ Some Pack → before.input.left ≡ Some bytes → NoneRose before after → status ≢ Memory
     → ReportsFault bytes before after status ⊎ ((status ≡ Done) × WritesSame bytes before after)
+
+-- ---- unpacking
+
+-- all bytes were read, and what was written has the same views
+pub record WritesKept (bytes : List ℕ) (before after : Moment) : Type 0 where
+  pub read : ReadToEnd before.input after.input bytes
+  pub glb : List ℕ
+  pub written : WroteAll before.output after.output glb
+  pub kept : KeepsViews bytes glb
+
+-- where unpacking is done, an asset whose views have the same contents was written
+abbrev pub KeepsContents : List (List ℕ) → Moment → Moment → Status → Type 0
+KeepsContents words before after status = command words ≡ Some Unpack → status ≡ Done → (bytes : List ℕ) × WritesKept bytes before after

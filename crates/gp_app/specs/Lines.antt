@@ -10,14 +10,20 @@ use Rattle.gp_fields.specs.declared.fault.Place.{Place}
 use Rattle.gp_fields.specs.declared.fault.Place.TheVariants.{Root, ExtensionsUsed, ExtensionsRequired, Buffers, BufferViews, Accessors, Meshes, Skins, Animations, Images}
 use Rattle.gp_asset.specs.declared.fault.AssetFault.{AssetFault}
 use Rattle.gp_asset.specs.declared.fault.AssetFault.TheVariants.{Field, AlreadyPacked, Foreign, Buffer, Scheme, Base64, View, Extension, Filter, Accessor, TooMuchData}
-use Rattle.gp_pack.specs.declared.pack_out.PackOut.{PackOut}
+use Rattle.gp_document.specs.declared.output.Output.{Output}
 use Rattle.gp_asset.specs.declared.refusal.Refusal.{Refusal}
 use Rattle.gp_asset.specs.declared.refusal.Refusal.TheVariants.{Glb, Json, Asset, Stream, NotYet, OutputTooLarge, Memory}
 
--- the line of a packed GLB, for an input of this length
-unfoldable pub packed_line : PackOut → ℕ → List ℕ
-packed_line out taken = codes "packed views " ++ decimal out.packed ++ codes " of " ++ decimal out.views ++ codes " in " ++ decimal taken
+-- the line of Done for an input of this length, behind its first words
+unfoldable pub done_line : List ℕ → Output → ℕ → List ℕ
+done_line words out taken = words ++ decimal out.packed ++ codes " of " ++ decimal out.views ++ codes " in " ++ decimal taken
     ++ codes " out " ++ decimal (length out.glb) ++ codes "\n"
+
+abbrev pub packed_line : Output → ℕ → List ℕ
+packed_line out taken = done_line (codes "packed views ") out taken
+
+abbrev pub unpacked_line : Output → ℕ → List ℕ
+unpacked_line out taken = done_line (codes "unpacked views ") out taken
 
 -- words and a number
 abbrev pub numbered : List ℕ → ℕ → List ℕ

@@ -1,15 +1,18 @@
 // From the source to what is to be written.
-ghost use Rattle.std.specs.Prelude.{◌≡◌, ◌≤◌, ◌+◌, ◌^◌, length, IfOk, IfErr};
+ghost use Rattle.std.specs.Prelude.{◌≡◌, ◌≤◌, ◌+◌, ◌^◌, length, Some, IfOk, IfErr};
 ghost use Rattle.gp_app.specs.Work.{Refuses, Makes};
-ghost use Rattle.gp_app.specs.Answer.{Answers, made_by, IsFaultOrMemory};
+ghost use Rattle.gp_app.specs.Answer.{Answers, told_line, made_by, IsFaultOrMemory};
+ghost use Rattle.gp_app.specs.Lines.{done_line};
 ghost use Rattle.gp_app.specs.Taken.{TakesInput};
 
 use crate::commands::Command;
-use crate::lines::packed_line;
+use crate::lines::done_line;
 use arrayvec::ArrayVec;
 use gp_asset::Refusal;
+use gp_document::Output;
 use gp_host::{Bytes, ReadRefusal, Source, read_all};
 use gp_pack::pack;
+use gp_unpack::unpack;
 use std::alloc::Global;
 
 /// The greatest length of an input.
@@ -60,7 +63,7 @@ fn take_input<S: Source>(alloc: Global, asked: Command, input: &mut S) -> Result
     ensures later { (S.state input.old).faults ≤ (S.state input.new).faults }
 {
     match asked {
-        Command::Pack => match read_all(alloc, input, MOST) {
+        Command::Pack | Command::Unpack => match read_all(alloc, input, MOST) {
             Ok(bytes) => Ok(bytes),
             Err(ReadRefusal::Failed) => Err(Stop::InputFailed),
             Err(ReadRefusal::TooLarge) => Err(Stop::TooLarge),
@@ -78,10 +81,23 @@ fn work(alloc: Global, asked: Command, bytes: &[u8]) -> Result<Answer, Refusal>
     match asked {
         Command::Pack => {
             let out = pack(alloc, bytes)?;
-            Ok(Answer {
-                line: Some(packed_line(&out, bytes.len())),
-                out: out.glb,
-            })
+            Ok(answer_with(b"packed views ", out, bytes.len()))
         }
+        Command::Unpack => {
+            let out = unpack(alloc, bytes)?;
+            Ok(answer_with(b"unpacked views ", out, bytes.len()))
+        }
+    }
+}
+
+/// The output, and the line of Done that begins with these words.
+fn answer_with(words: &[u8], out: Output, taken: usize) -> Answer
+    requires { length words.now ≤ 20 }
+    ensures out { result.out ≡ out.glb }
+    ensures line { told_line result ≡ Some (done_line words.now out taken) }
+{
+    Answer {
+        line: Some(done_line(words, &out, taken)),
+        out: out.glb,
     }
 }

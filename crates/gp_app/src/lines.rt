@@ -2,14 +2,14 @@
 ghost use Rattle.std.specs.Prelude.{◌≡◌, ◌≢◌, ◌+◌, ◌≤◌, ◌++◌, length, codes, decimal};
 ghost use Rattle.arrayvec.specs.ArrayVec.{array_vec_len};
 ghost use Rattle.gp_asset.specs.declared.refusal.Refusal.TheVariants.{Memory};
-ghost use Rattle.gp_app.specs.Lines.{packed_line, numbered, line_of_glb, line_of_json, place_name, line_of_asset, words_of_stream, line_of_stream, line_of_refusal};
+ghost use Rattle.gp_app.specs.Lines.{done_line, numbered, line_of_glb, line_of_json, place_name, line_of_asset, words_of_stream, line_of_stream, line_of_refusal};
 
 use arrayvec::ArrayVec;
 use gp_asset::{AssetFault, Place, Refusal};
+use gp_document::Output;
 use gp_glb::GlbFault;
 use gp_groups::StreamFault;
 use gp_json::JsonFault;
-use gp_pack::PackOut;
 use itoa::Buffer;
 
 /// Appends a text that has room.
@@ -41,13 +41,13 @@ fn put_count(line: &mut ArrayVec<u8, 96>, number: u32)
     put(line, buffer.format(number).as_bytes());
 }
 
-/// The line of a packed GLB, for an input of this many bytes.
-#[tactic(auto, unfolding(crate::specs::Lines::packed_line))]
-pub(crate) fn packed_line(out: &PackOut, taken: usize) -> ArrayVec<u8, 96>
-    ensures { result.items ≡ packed_line out.now taken }
+/// The line of Done behind its first words, for an input of this many bytes.
+#[tactic(auto, unfolding(crate::specs::Lines::done_line))]
+pub(crate) fn done_line(words: &[u8], out: &Output, taken: usize) -> ArrayVec<u8, 96>
+    requires { length words.now ≤ 20 }
+    ensures { result.items ≡ done_line words.now out.now taken }
 {
-    let mut line = ArrayVec::new();
-    put(&mut line, b"packed views ");
+    let mut line = words_line(words);
     put_count(&mut line, out.packed);
     put(&mut line, b" of ");
     put_count(&mut line, out.views);

@@ -2,7 +2,7 @@
 ghost use Rattle.std.specs.Prelude.{◌≤◌, ◌+◌, ◌^◌, map, string_bytes};
 ghost use Rattle.gp_app.specs.Moment.{moment, Later};
 ghost use Rattle.gp_app.specs.Ends.{Ends, Completes, CommandEnds};
-ghost use Rattle.gp_app.specs.Headline.{Headline, KeepsAsset};
+ghost use Rattle.gp_app.specs.Headline.{Headline, KeepsAsset, KeepsContents};
 
 use crate::Status;
 use crate::answer::{Stop, answer_to};
@@ -30,8 +30,11 @@ pub fn run<S: Source, K: Sink, R: Sink>(
         (moment (S.state input.old) (K.state output.old) (R.state report.old))
         (moment (S.state input.new) (K.state output.new) (R.state report.new)) result }
 
-    // What packing keeps.
+    // What packing and unpacking keep.
     ensures keeps { KeepsAsset (map string_bytes words.now)
+        (moment (S.state input.old) (K.state output.old) (R.state report.old))
+        (moment (S.state input.new) (K.state output.new) (R.state report.new)) result }
+    ensures unpacks { KeepsContents (map string_bytes words.now)
         (moment (S.state input.old) (K.state output.old) (R.state report.old))
         (moment (S.state input.new) (K.state output.new) (R.state report.new)) result }
     ensures headline { Headline (map string_bytes words.now)

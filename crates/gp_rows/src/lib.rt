@@ -1,4 +1,4 @@
-//! Tests of the whole program: rows of files with what `pack` answers for them, over sources and sinks in memory that
+//! Tests of the whole program: rows of files with what `pack` and `unpack` answer for them, over sources and sinks in memory that
 //! take and give few bytes at a time, and that fail.
 #![tactic(auto)]
 
@@ -14,5 +14,7 @@ mod lines;
 mod pairs;
 #[cfg(test)]
 mod readings;
+#[cfg(test)]
+mod unpacked;
 #[cfg(test)]
 mod words;

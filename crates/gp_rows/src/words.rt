@@ -15,16 +15,20 @@ fn words_of(alloc: Global, texts: &[&str]) -> Result<Vec<String>, NoMemory> {
 }
 
 #[test]
-fn pack_is_the_one_command(rt: HostRuntime) -> Result<(), Fail> {
+fn pack_and_unpack_are_commands(rt: HostRuntime) -> Result<(), Fail> {
     let alloc = rt.alloc();
     assert_eq!(rt; command(&words_of(alloc, &["pack"])?), Some(Command::Pack));
+    assert_eq!(rt;
+        command(&words_of(alloc, &["unpack"])?),
+        Some(Command::Unpack)
+    );
     let others: [&[&str]; 8] = [
         &[],
         &[""],
         &["Pack"],
         &["pack", "x"],
         &["sample", "0"],
-        &["unpack"],
+        &["analyse"],
         &["--help"],
         &["pack "],
     ];
