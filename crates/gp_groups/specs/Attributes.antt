@@ -55,6 +55,6 @@ with_tail count stride (Some (blocks, tail)) =
     if length tail == max 32 stride then Ok (elements (drop (max 32 stride - stride) tail) blocks count stride) else Err (Tail (length tail))
 
 -- the bytes of `count` elements of `stride` bytes each, or the first fault
-unfoldable pub attr : List ℕ → ℕ → ℕ → Result (List ℕ) StreamFault
-attr bytes count stride =
+unfoldable pub decoded_attributes : List ℕ → ℕ → ℕ → Result (List ℕ) StreamFault
+decoded_attributes bytes count stride =
     if slice_index bytes 0 == 0xA0 then with_tail count stride (in_row (block stride) (block_lens count stride) (drop 1 bytes)) else Err Header

@@ -51,5 +51,5 @@ body stride count bytes =
     checked stride list (position (is_too_wide stride) list) read.1
 
 -- the bytes of `count` indices of `stride` bytes each, or the first fault
-unfoldable pub seq : List ℕ → ℕ → ℕ → Result (List ℕ) StreamFault
-seq bytes count stride = if slice_index bytes 0 == 0xD1 then body stride count (drop 1 bytes) else Err Header
+unfoldable pub decoded_sequence : List ℕ → ℕ → ℕ → Result (List ℕ) StreamFault
+decoded_sequence bytes count stride = if slice_index bytes 0 == 0xD1 then body stride count (drop 1 bytes) else Err Header

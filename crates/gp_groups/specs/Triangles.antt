@@ -152,8 +152,8 @@ with_table (Some entry) list = Err (Table entry)
 with_table None list = list
 
 -- the bytes of `count` indices of `stride` bytes each, or the first fault
-unfoldable pub tri : List ℕ → ℕ → ℕ → Result (List ℕ) StreamFault
-tri bytes count stride =
+unfoldable pub decoded_triangles : List ℕ → ℕ → ℕ → Result (List ℕ) StreamFault
+decoded_triangles bytes count stride =
     let codes = slice_range bytes 1 (1 + count / 3) in
     let unread = slice_range bytes (1 + count / 3) (length bytes - 16) in
     let table = drop (length bytes - 16) bytes in

@@ -37,8 +37,8 @@ written_block source count stride k =
     flat_map (written_part source stride (k * block_len stride) (min (block_len stride) (count - k * block_len stride))) (range_with_len 0 stride)
 
 -- the stream: the blocks, zeros up to 32 bytes, and the first element as the baseline
-unfoldable pub attrw : List ℕ → ℕ → ℕ → List ℕ
-attrw source count stride =
+unfoldable pub encoded_attributes : List ℕ → ℕ → ℕ → List ℕ
+encoded_attributes source count stride =
     (0xA0 ∷ flat_map (written_block source count stride) (range_with_len 0 ((count + block_len stride - 1) / block_len stride)))
     ++ replicate (max 32 stride - stride) 0
     ++ (if count == 0 then replicate stride 0 else take stride source)

@@ -14,5 +14,5 @@ written_indices number used other (index ∷ list) =
     then spelled (2 * zigzag_difference other index + (1 - number)) ++ written_indices (1 - number) index used list
     else spelled (2 * zigzag_difference used index + number) ++ written_indices number index other list
 
-unfoldable pub seqw : List ℕ → List ℕ
-seqw list = (0xD1 ∷ written_indices 0 0 0 list) ++ replicate 4 0
+unfoldable pub encoded_sequence : List ℕ → List ℕ
+encoded_sequence list = (0xD1 ∷ written_indices 0 0 0 list) ++ replicate 4 0

@@ -128,7 +128,7 @@ pieces s (a ∷ b ∷ c ∷ list) = piece s (a, b, c) ∷ pieces (after s (piece
 pieces s list = []
 
 -- all codes, then all auxiliary bytes, then the table
-unfoldable pub triw : List ℕ → List ℕ
-triw list =
+unfoldable pub encoded_triangles : List ℕ → List ℕ
+encoded_triangles list =
     let written = pieces (at_first []) list in
     (0xE1 ∷ map (λ p. p.code) written) ++ flat_map (λ p. p.bytes) written ++ codeaux

@@ -7,8 +7,8 @@ use Rattle.std.proofs.lemmas.List.Elements.{All-cons}
 use Rattle.gp_groups.specs.Sequence.{is_too_wide, le_bytes}
 use Rattle.gp_groups.specs.declared.fault.StreamFault.{StreamFault}
 use Rattle.gp_groups.specs.declared.fault.StreamFault.TheVariants.{Width}
-use Rattle.gp_groups.specs.Triangles.{State, Triangle, after, at_first, corners, narrow, tri, triangle, triangles}
-use Rattle.gp_groups.specs.WrittenTriangles.{Piece, codeaux, piece, pieces, rotated, triw}
+use Rattle.gp_groups.specs.Triangles.{State, Triangle, after, at_first, corners, decoded_triangles, narrow, triangle, triangles}
+use Rattle.gp_groups.specs.WrittenTriangles.{Piece, codeaux, encoded_triangles, piece, pieces, rotated}
 use Rattle.gp_index.specs.Resets.{NeverResets}
 use Rattle.gp_index.specs.SameTriangles.{HasTriangles, SameTriangles, triangle_at}
 use Rattle.gp_index.proofs.CornersBack.{Low}
@@ -68,7 +68,7 @@ codes_count s (a ∷ b ∷ []) = refl
 codes_count s (a ∷ b ∷ c ∷ list) = omega (arith, codes_count (after s (piece s (a, b, c)).read) list)
 
 -- a stream by its parts
-parts_meant : (codes unread list : List ℕ) (count stride : ℕ) → length codes ≡ count / 3 → triangles stride codeaux 0 codes (at_first unread) ≡ Ok list → tri (((0xE1 ∷ codes) ++ unread) ++ codeaux) count stride ≡ Ok (flat_map (le_bytes stride) list)
+parts_meant : (codes unread list : List ℕ) (count stride : ℕ) → length codes ≡ count / 3 → triangles stride codeaux 0 codes (at_first unread) ≡ Ok list → decoded_triangles (((0xE1 ∷ codes) ++ unread) ++ codeaux) count stride ≡ Ok (flat_map (le_bytes stride) list)
 parts_meant codes unread list count stride n read =
     let bytes = ((0xE1 ∷ codes) ++ unread) ++ codeaux in
     let front : length ((0xE1 ∷ codes) ++ unread) ≡ 1 + count / 3 + length unread = omega (arith, length-append (0xE1 ∷ codes) unread, n) in
@@ -80,8 +80,8 @@ parts_meant codes unread list count stride n read =
     let second : slice_range bytes (1 + count / 3) (length bytes - 16) ≡ unread = ap (take (length bytes - 16 - (1 + count / 3))) behind ∙ take_at unread codeaux (length bytes - 16 - (1 + count / 3)) (omega (arith, long)) in
     whole_stream bytes count stride (Ok (flat_map (le_bytes stride) list)) refl (omega (arith, long)) (rw table refl) (rw (table, first, second, read) refl)
 
-pub stream_meant : (stride : ℕ) (list : List ℕ) → All (Fits stride) list → tri (triw list) (length list) stride ≡ Ok (flat_map (le_bytes stride) (turned (at_first []) list))
-unfolding triw
+pub stream_meant : (stride : ℕ) (list : List ℕ) → All (Fits stride) list → decoded_triangles (encoded_triangles list) (length list) stride ≡ Ok (flat_map (le_bytes stride) (turned (at_first []) list))
+unfolding encoded_triangles
 stream_meant stride list all =
     let written = written_of (at_first []) list in
     parts_meant written.0 written.1 (turned (at_first []) list) (length list) stride (codes_count (at_first []) list)
@@ -118,17 +118,17 @@ turned_same s (a ∷ b ∷ c ∷ list) h =
     }
 
 -- the stream of a list, with the bytes of its indices
-has_triangles : (stride : ℕ) (list bytes : List ℕ) → length list % 3 ≡ 0 → All (Fits stride) list → bytes ≡ triw list → HasTriangles bytes list stride
+has_triangles : (stride : ℕ) (list bytes : List ℕ) → length list % 3 ≡ 0 → All (Fits stride) list → bytes ≡ encoded_triangles list → HasTriangles bytes list stride
 has_triangles stride list bytes triple fits is = record {
   other = turned (at_first []) list;
   same = turned_same (at_first []) list triple;
   meant = rw is (stream_meant stride list fits);
 }
 
-pub in_four : (list bytes : List ℕ) → length list % 3 ≡ 0 → All (λ index. index < 2 ^ 24) list → bytes ≡ triw list → HasTriangles bytes list 4
+pub in_four : (list bytes : List ℕ) → length list % 3 ≡ 0 → All (λ index. index < 2 ^ 24) list → bytes ≡ encoded_triangles list → HasTriangles bytes list 4
 in_four list bytes triple low is = has_triangles 4 list bytes triple (λ k d h. (low k d h, refl)) is
 
-pub in_two : (list bytes : List ℕ) → length list % 3 ≡ 0 → All (λ index. index ≤ 65535) list → bytes ≡ triw list → HasTriangles bytes list 2
+pub in_two : (list bytes : List ℕ) → length list % 3 ≡ 0 → All (λ index. index ≤ 65535) list → bytes ≡ encoded_triangles list → HasTriangles bytes list 2
 in_two list bytes triple low is = has_triangles 2 list bytes triple (λ k d h. (omega (arith, low k d h), le-ltb 65535 (get_or list k d) (low k d h))) is
 
 -- no written triangle sets `next` to 0

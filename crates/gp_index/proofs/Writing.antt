@@ -3,7 +3,7 @@ use Rattle.std.proofs.Common.{◌≡◌, ℕ, ◌+◌, ◌-◌, ◌*◌, ◌^◌
 use Rattle.std.specs.List.{flat_map}
 use Rattle.std.proofs.lemmas.List.{drop_more, drop_all}
 use Rattle.gp_groups.specs.Triangles.{Cursor, State, after, at_first, is_new, only_if}
-use Rattle.gp_groups.specs.WrittenTriangles.{Piece, Written, as_explicit, as_moved, as_next, as_queued, behind_edge, free_code, leading_edge, next_leads, piece, pieces, rotated, triw, without_edge, written_half, written_third, codeaux}
+use Rattle.gp_groups.specs.WrittenTriangles.{Piece, Written, as_explicit, as_moved, as_next, as_queued, behind_edge, free_code, leading_edge, next_leads, piece, pieces, rotated, encoded_triangles, without_edge, written_half, written_third, codeaux}
 use Rattle.gp_queues.specs.Queue.{pushed}
 use Rattle.gp_index.specs.Decoding.{kept_after, push_all}
 use Rattle.gp_index.specs.Encoding.{kept_piece}
@@ -166,8 +166,8 @@ next_bytes whole list items written k code bytes s s' h told w so_far =
 pub first_pieces : (list : List ℕ) (edges : List (ℕ × ℕ)) (vertices : List ℕ) → edges ≡ replicate 16 (4294967295, 4294967295) → vertices ≡ replicate 16 4294967295 → written_of (at_first []) list ≡ written_of (standing (record { next = 0; last = 0; unread = [] }) edges vertices) list
 first_pieces list edges vertices e v = rw (e, v) (pieces_alike (at_first []) _ list (start_alike []))
 
-pub all_written : (list codes bytes : List ℕ) (k : ℕ) (s : State) → length list ≡ 3 * k → 0xE1 ∷ (written_of (at_first []) list).0 ≡ codes ++ (written_of s (drop (3 * k) list)).0 → (written_of (at_first []) list).1 ≡ bytes ++ (written_of s (drop (3 * k) list)).1 → (codes ++ bytes) ++ codeaux ≡ triw list
-unfolding triw
+pub all_written : (list codes bytes : List ℕ) (k : ℕ) (s : State) → length list ≡ 3 * k → 0xE1 ∷ (written_of (at_first []) list).0 ≡ codes ++ (written_of s (drop (3 * k) list)).0 → (written_of (at_first []) list).1 ≡ bytes ++ (written_of s (drop (3 * k) list)).1 → (codes ++ bytes) ++ codeaux ≡ encoded_triangles list
+unfolding encoded_triangles
 all_written list codes bytes k s long c b =
     let end : drop (3 * k) list ≡ [] = drop_all (3 * k) list (omega arith) in
     let cs : 0xE1 ∷ (written_of (at_first []) list).0 ≡ codes = rw end at c ∙ append-nil codes in

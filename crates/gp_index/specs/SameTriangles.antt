@@ -2,7 +2,7 @@
 use Rattle.std.specs.Prelude.{◌≡◌, ℕ, ◌+◌, ◌*◌, ◌<◌, List, length, slice_index, Ok}
 use Rattle.std.specs.List.{flat_map}
 use Rattle.gp_groups.specs.Sequence.{le_bytes}
-use Rattle.gp_groups.specs.Triangles.{tri}
+use Rattle.gp_groups.specs.Triangles.{decoded_triangles}
 use Rattle.gp_groups.specs.WrittenTriangles.{rotated}
 
 -- the triangle of this number
@@ -18,4 +18,4 @@ pub record SameTriangles (list other : List ℕ) : Type 0 where
 pub record HasTriangles (bytes list : List ℕ) (stride : ℕ) : Type 0 where
   pub other : List ℕ
   pub same : SameTriangles list other
-  pub meant : tri bytes (length list) stride ≡ Ok (flat_map (le_bytes stride) other)
+  pub meant : decoded_triangles bytes (length list) stride ≡ Ok (flat_map (le_bytes stride) other)

@@ -1,6 +1,6 @@
 // Streams of triangles, read.
 ghost use Rattle.std.specs.Prelude.{◌≡◌, ◌<◌, ◌*◌, ◌%◌, ◌⊎◌, length, take, Ok};
-ghost use Rattle.gp_groups.specs.Triangles.{at_first, edge_at, edge_triangle, free_triangle, has_nibble_15, tri, triangle, triangles};
+ghost use Rattle.gp_groups.specs.Triangles.{at_first, decoded_triangles, edge_at, edge_triangle, free_triangle, has_nibble_15, triangle, triangles};
 ghost use Rattle.std.specs.List.{position};
 ghost use Rattle.gp_groups.specs.Steps.{beside, filled};
 ghost use Rattle.gp_index.specs.Decoding.{as_bytes, cursor_of, kept, state_of};
@@ -120,7 +120,7 @@ pub fn decode_triangles(
     requires triangles { count % 3 ≡ 0 }
     requires stride { (stride ≡ 2) ⊎ (stride ≡ 4) }
     requires room { length dest.old ≡ count * stride }
-    ensures { tri bytes.now count stride ≡ filled result dest.new }
+    ensures { decoded_triangles bytes.now count stride ≡ filled result dest.new }
 {
     if bytes.is_empty() || bytes[0] != 0xE1 {
         return Err(StreamFault::Header);

@@ -1,7 +1,7 @@
 // Streams of triangles, written.
 ghost use Rattle.std.specs.Prelude.{◌≡◌, ◌+◌, ◌%◌, ◌==◌, ◌<◌, ◌≤◌, ◌^◌, ◌++◌, length, take, IfOk};
 ghost use Rattle.std.specs.List.{All, position};
-ghost use Rattle.gp_groups.specs.WrittenTriangles.{behind_edge, codeaux, free_code, next_leads, piece, rotated, triw, without_edge};
+ghost use Rattle.gp_groups.specs.WrittenTriangles.{behind_edge, codeaux, encoded_triangles, free_code, next_leads, piece, rotated, without_edge};
 ghost use Rattle.gp_index.specs.Encoding.{InRange, byte_if, bytes_of, counted, kept_piece, standing_of};
 ghost use Rattle.gp_index.specs.SameTriangles.{HasTriangles};
 
@@ -150,7 +150,7 @@ fn table_entry(halves: u8) -> Option<usize>
 pub fn encode_triangles(alloc: Global, indices: &[u32]) -> Result<Vec<u8>, NoMemory>
     requires triangles { length indices.now % 3 ≡ 0 }
     requires range { All (λ index. index < 2 ^ 24) indices.now }
-    ensures value { IfOk result (λ bytes. bytes.items ≡ triw indices.now) }
+    ensures value { IfOk result (λ bytes. bytes.items ≡ encoded_triangles indices.now) }
     ensures in_four_bytes { IfOk result (λ bytes. HasTriangles bytes.items indices.now 4) }
     ensures in_two_bytes { All (λ index. index ≤ 65535) indices.now → IfOk result (λ bytes. HasTriangles bytes.items indices.now 2) }
 {

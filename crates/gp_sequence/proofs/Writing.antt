@@ -6,9 +6,9 @@ use Rattle.std.proofs.lemmas.Bool.Decides.{leb_tells}
 use Rattle.std.proofs.Math.Seq.{drop-append_seam}
 use Rattle.std.proofs.lemmas.List.{drop_all, drop_more}
 use Rattle.std.proofs.lemmas.List.Elements.{All-head, All-tail, All-weaker}
-use Rattle.gp_groups.specs.Sequence.{difference, is_too_wide, le_bytes, seq}
+use Rattle.gp_groups.specs.Sequence.{decoded_sequence, difference, is_too_wide, le_bytes}
 use Rattle.gp_groups.specs.Varint.{spelled}
-use Rattle.gp_groups.specs.WrittenSequence.{zigzag_difference, seqw, written_indices}
+use Rattle.gp_groups.specs.WrittenSequence.{zigzag_difference, encoded_sequence, written_indices}
 use Rattle.gp_groups.specs.declared.fault.StreamFault.{StreamFault}
 use Rattle.gp_sequence.specs.Turns.{baselines_after, index_after}
 use Rattle.gp_sequence.specs.declared.baselines.Baselines.{Baselines}
@@ -106,17 +106,17 @@ rest_back stride at number used other so_far (index ∷ list) n u o small fits =
           (told_back stride at number used other so_far index list n u i fit (rest_back stride (at + 1) number index other then_written list n i o smaller fit_on))
     ]
 
-sequence_back : (stride : ℕ) (list : List ℕ) → All (λ index. index < 2 ^ 30) list → All (Narrow stride) list → seq (seqw list) (length list) stride ≡ Ok (flat_map (le_bytes stride) list)
-unfolding seqw Back
+sequence_back : (stride : ℕ) (list : List ℕ) → All (λ index. index < 2 ^ 30) list → All (Narrow stride) list → decoded_sequence (encoded_sequence list) (length list) stride ≡ Ok (flat_map (le_bytes stride) list)
+unfolding encoded_sequence Back
 sequence_back stride list small fits =
-    whole_stream (seqw list) (length list) stride _ refl
+    whole_stream (encoded_sequence list) (length list) stride _ refl
     (from_start stride (length list) (written_indices 0 0 0 list ++ replicate 4 0) ∙ rest_back stride 0 0 0 0 [] list (omega arith) (omega arith) (omega arith) small fits)
 
-pub wide_back : (list : List ℕ) → All (λ index. index < 2 ^ 30) list → seq (seqw list) (length list) 4 ≡ Ok (flat_map (le_bytes 4) list)
+pub wide_back : (list : List ℕ) → All (λ index. index < 2 ^ 30) list → decoded_sequence (encoded_sequence list) (length list) 4 ≡ Ok (flat_map (le_bytes 4) list)
 unfolding Narrow
 wide_back list small = sequence_back 4 list small (λ k d h. refl)
 
-pub narrow_back : (list : List ℕ) → All (λ index. index < 2 ^ 30) list → All (λ index. index ≤ 65535) list → seq (seqw list) (length list) 2 ≡ Ok (flat_map (le_bytes 2) list)
+pub narrow_back : (list : List ℕ) → All (λ index. index < 2 ^ 30) list → All (λ index. index ≤ 65535) list → decoded_sequence (encoded_sequence list) (length list) 2 ≡ Ok (flat_map (le_bytes 2) list)
 unfolding Narrow
 narrow_back list small fits = sequence_back 2 list small (All-weaker (λ (index : ℕ). index ≤ 65535) (Narrow 2) (λ index h. le-ltb 65535 index h) list fits)
 
@@ -133,8 +133,8 @@ next_written indices whole bytes spelling k number used other number' used' othe
 
 pub last_written : (indices bytes : List ℕ) (k number used other : ℕ) → k ≡ length indices
     → 0xD1 ∷ written_indices 0 0 0 indices ≡ bytes ++ written_indices number used other (drop k indices)
-    → bytes ++ replicate 4 0 ≡ seqw indices
-unfolding seqw
+    → bytes ++ replicate 4 0 ≡ encoded_sequence indices
+unfolding encoded_sequence
 last_written indices bytes k number used other h so_far =
     let end = drop_all k indices (omega arith) in
     ap (λ (xs : List ℕ). xs ++ replicate 4 0) (sym (so_far ∙ ap (λ (xs : List ℕ). bytes ++ written_indices number used other xs) end ∙ append-nil bytes))

@@ -1,6 +1,6 @@
 // Sequences, read.
 ghost use Rattle.std.specs.Prelude.{◌≡◌, ◌+◌, ◌*◌, ◌≤◌, ◌⊎◌, length, take, IfOk};
-ghost use Rattle.gp_groups.specs.Sequence.{body, seq};
+ghost use Rattle.gp_groups.specs.Sequence.{body, decoded_sequence};
 ghost use Rattle.gp_groups.specs.Steps.{beside, filled};
 ghost use Rattle.gp_sequence.specs.Turns.{turn};
 
@@ -19,7 +19,7 @@ pub fn decode_sequence(
 ) -> Result<(), StreamFault>
     requires stride { (stride ≡ 2) ⊎ (stride ≡ 4) }
     requires room { length dest.old ≡ count * stride }
-    ensures { seq bytes.now count stride ≡ filled result dest.new }
+    ensures { decoded_sequence bytes.now count stride ≡ filled result dest.new }
 {
     if bytes.is_empty() || bytes[0] != 0xD1 {
         return Err(StreamFault::Header);

@@ -50,6 +50,7 @@ pub fn write_varint(value: u32) -> ArrayVec<u8, 5>
 }
 
 /// Appends the shortest varint of a value, as `write_varint` (EXT_meshopt_compression, modes 1 and 2). It fails only for want of memory.
+// It has a loop of its own: with the array of `write_varint` copied behind the bytes, the encoders take twice as long.
 pub fn append_varint(bytes: &mut Vec<u8>, value: u32) -> Result<(), NoMemory>
     ensures { OnOk result (bytes.new.items ≡ bytes.old.items ++ spelled value) }
 {

@@ -1,7 +1,7 @@
 // Attribute streams.
 ghost use Rattle.std.specs.Prelude.{◌≡◌, ◌*◌, ◌%◌, ◌≤◌, ◌↔◌, IsTrue, length};
-ghost use Rattle.gp_groups.specs.Attributes.{attr};
-ghost use Rattle.gp_groups.specs.WrittenAttributes.{attrw};
+ghost use Rattle.gp_groups.specs.Attributes.{decoded_attributes};
+ghost use Rattle.gp_groups.specs.WrittenAttributes.{encoded_attributes};
 ghost use Rattle.gp_streams_c.specs.Answers.{Decoded, Encoded, are_elements};
 
 use crate::answers::{NO_SHAPE, answer_of, hand_out};
@@ -16,7 +16,7 @@ pub extern "C" fn gp_streams_c_decode_attributes(
     stride: usize,
     dest: &mut [u8],
 ) -> u32
-    ensures { Decoded (are_elements (length dest.old) count stride) (attr bytes.now count stride) result dest.old dest.new }
+    ensures { Decoded (are_elements (length dest.old) count stride) (decoded_attributes bytes.now count stride) result dest.old dest.new }
 {
     if has_shape(dest.len(), count, stride) {
         answer_of(decode_attributes(bytes, count, stride, dest))
@@ -35,7 +35,7 @@ pub extern "C" fn gp_streams_c_encode_attributes(
     room: &mut [u8],
     size: &mut usize,
 ) -> u32
-    ensures { Encoded (are_elements (length source.now) count stride) (attrw source.now count stride) result size.new room.old room.new }
+    ensures { Encoded (are_elements (length source.now) count stride) (encoded_attributes source.now count stride) result size.new room.old room.new }
 {
     if has_shape(source.len(), count, stride) {
         hand_out(encode_attributes(alloc, source, count, stride), room, size)

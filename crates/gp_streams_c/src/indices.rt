@@ -1,10 +1,10 @@
 // Streams of indices and of triangles.
 ghost use Rattle.std.specs.Prelude.{◌≡◌, ◌*◌, ◌%◌, ◌^◌, ◌==◌, ◌&&◌, ◌⊎◌, ◌<◌, ◌↔◌, IsTrue, length, nat_lt};
 ghost use Rattle.std.specs.List.{All, list_all};
-ghost use Rattle.gp_groups.specs.Sequence.{seq};
-ghost use Rattle.gp_groups.specs.Triangles.{tri};
-ghost use Rattle.gp_groups.specs.WrittenSequence.{seqw};
-ghost use Rattle.gp_groups.specs.WrittenTriangles.{triw};
+ghost use Rattle.gp_groups.specs.Sequence.{decoded_sequence};
+ghost use Rattle.gp_groups.specs.Triangles.{decoded_triangles};
+ghost use Rattle.gp_groups.specs.WrittenSequence.{encoded_sequence};
+ghost use Rattle.gp_groups.specs.WrittenTriangles.{encoded_triangles};
 ghost use Rattle.gp_streams_c.specs.Answers.{Decoded, Encoded, are_indices};
 
 use crate::answers::{NO_SHAPE, answer_of, hand_out};
@@ -20,7 +20,7 @@ pub extern "C" fn gp_streams_c_decode_sequence(
     stride: usize,
     dest: &mut [u8],
 ) -> u32
-    ensures { Decoded (are_indices (length dest.old) count stride) (seq bytes.now count stride) result dest.old dest.new }
+    ensures { Decoded (are_indices (length dest.old) count stride) (decoded_sequence bytes.now count stride) result dest.old dest.new }
 {
     if has_shape(dest.len(), count, stride) {
         answer_of(decode_sequence(bytes, count, stride, dest))
@@ -37,7 +37,7 @@ pub extern "C" fn gp_streams_c_encode_sequence(
     room: &mut [u8],
     size: &mut usize,
 ) -> u32
-    ensures { Encoded (list_all (λ index. nat_lt index (2 ^ 30)) indices.now) (seqw indices.now) result size.new room.old room.new }
+    ensures { Encoded (list_all (λ index. nat_lt index (2 ^ 30)) indices.now) (encoded_sequence indices.now) result size.new room.old room.new }
 {
     if are_below(indices, 1 << 30) {
         hand_out(encode_sequence(alloc, indices), room, size)
@@ -54,7 +54,7 @@ pub extern "C" fn gp_streams_c_decode_triangles(
     stride: usize,
     dest: &mut [u8],
 ) -> u32
-    ensures { Decoded (are_indices (length dest.old) count stride && count % 3 == 0) (tri bytes.now count stride) result dest.old dest.new }
+    ensures { Decoded (are_indices (length dest.old) count stride && count % 3 == 0) (decoded_triangles bytes.now count stride) result dest.old dest.new }
 {
     if has_shape(dest.len(), count, stride) && count % 3 == 0 {
         answer_of(decode_triangles(bytes, count, stride, dest))
@@ -71,7 +71,7 @@ pub extern "C" fn gp_streams_c_encode_triangles(
     room: &mut [u8],
     size: &mut usize,
 ) -> u32
-    ensures { Encoded (length indices.now % 3 == 0 && list_all (λ index. nat_lt index (2 ^ 24)) indices.now) (triw indices.now) result size.new room.old room.new }
+    ensures { Encoded (length indices.now % 3 == 0 && list_all (λ index. nat_lt index (2 ^ 24)) indices.now) (encoded_triangles indices.now) result size.new room.old room.new }
 {
     if indices.len() % 3 == 0 && are_below(indices, 1 << 24) {
         hand_out(encode_triangles(alloc, indices), room, size)

@@ -28,7 +28,7 @@ use Rattle.gp_unpack.proofs.Places.{laid_length, end_grows}
 
 -- ---- accessors see of views only their lengths and strides
 
-abbrev bare : View → View
+abbrev pub bare : View → View
 bare v = plain_view_at 0 v
 
 bare_past : (a : Accessor) (found : Option View) → runs_past a (option_map bare found) ≡ runs_past a found
@@ -93,13 +93,13 @@ bare_load views accessors =
     (sym (sum-map (λ (v : View). v.length) (map bare views)) ∙ ap sum (bare_lengths views) ∙ sum-map (λ (v : View). v.length) views)
 
 -- views that are bare alike
-same_accessors : (vs ws : List View) (accessors : List AccessorFields) → map bare vs ≡ map bare ws
+pub same_accessors : (vs ws : List View) (accessors : List AccessorFields) → map bare vs ≡ map bare ws
     → each (accessor_of vs) 0 accessors ≡ each (accessor_of ws) 0 accessors
 same_accessors vs ws accessors e =
     sym (alike (accessor_of (map bare vs)) (accessor_of vs) (bare_accessor vs) 0 accessors) ∙ ap (λ views. each (accessor_of views) 0 accessors) e
     ∙ alike (accessor_of (map bare ws)) (accessor_of ws) (bare_accessor ws) 0 accessors
 
-same_load : (vs ws : List View) (accessors : List Accessor) → map bare vs ≡ map bare ws → is_too_much vs accessors ≡ is_too_much ws accessors
+pub same_load : (vs ws : List View) (accessors : List Accessor) → map bare vs ≡ map bare ws → is_too_much vs accessors ≡ is_too_much ws accessors
 same_load vs ws accessors e = ap (nat_lt (2 ^ 31)) (sym (bare_load vs accessors) ∙ ap (λ views. load views accessors) e ∙ bare_load ws accessors)
 
 plain_bare : (at : ℕ) (vs : List View) → map bare (plain_views_at (starts_behind at (map (λ (v : View). v.length) vs)) vs) ≡ map bare vs

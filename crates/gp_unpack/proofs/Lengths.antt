@@ -9,9 +9,9 @@ use Rattle.gp_groups.specs.declared.fault.StreamFault.{StreamFault}
 use Rattle.gp_groups.specs.declared.fault.StreamFault.TheVariants.{Header, Short, Tail, Width}
 use Rattle.gp_groups.specs.Steps.{and_then, in_row}
 use Rattle.gp_groups.specs.Varint.{varint}
-use Rattle.gp_groups.specs.Attributes.{attr, with_tail, block, block_lens, elements, element_byte}
-use Rattle.gp_groups.specs.Triangles.{tri, triangles, triangle, Triangle, State, after, at_first, corners, narrow, with_table, has_nibble_15}
-use Rattle.gp_groups.specs.Sequence.{seq, body, values, indices, index_at, checked, le_bytes, is_too_wide}
+use Rattle.gp_groups.specs.Attributes.{decoded_attributes, with_tail, block, block_lens, elements, element_byte}
+use Rattle.gp_groups.specs.Triangles.{decoded_triangles, triangles, triangle, Triangle, State, after, at_first, corners, narrow, with_table, has_nibble_15}
+use Rattle.gp_groups.specs.Sequence.{decoded_sequence, body, values, indices, index_at, checked, le_bytes, is_too_wide}
 
 -- ---- checks that let a value through
 
@@ -59,8 +59,8 @@ tail_length count stride (Some (blocks, tail)) xs e =
     let is = let_through (length tail == max 32 stride) (Ok list) (Tail (length tail)) xs e in
     ap length (sym (same list xs is)) ∙ element_rows (drop (max 32 stride - stride) tail) blocks count stride
 
-pub attributes_length : (bytes : List ℕ) (count stride : ℕ) (xs : List ℕ) → attr bytes count stride ≡ Ok xs → length xs ≡ count * stride
-unfolding attr
+pub attributes_length : (bytes : List ℕ) (count stride : ℕ) (xs : List ℕ) → decoded_attributes bytes count stride ≡ Ok xs → length xs ≡ count * stride
+unfolding decoded_attributes
 attributes_length bytes count stride xs e =
     let row = in_row (block stride) (block_lens count stride) (drop 1 bytes) in
     tail_length count stride row xs (let_through (slice_index bytes 0 == 0xA0) (with_tail count stride row) Header xs e)
@@ -96,8 +96,8 @@ bytes_of : (stride n : ℕ) (list xs : List ℕ) → length list ≡ n
 bytes_of stride n list xs long e =
     ap length (sym (same (flat_map (le_bytes stride) list) xs e)) ∙ rows (le_bytes stride) stride (number stride) list ∙ ap (λ m. m * stride) long
 
-pub triangles_length : (bytes : List ℕ) (count stride : ℕ) (xs : List ℕ) → count % 3 ≡ 0 → tri bytes count stride ≡ Ok xs → length xs ≡ count * stride
-unfolding tri
+pub triangles_length : (bytes : List ℕ) (count stride : ℕ) (xs : List ℕ) → count % 3 ≡ 0 → decoded_triangles bytes count stride ≡ Ok xs → length xs ≡ count * stride
+unfolding decoded_triangles
 triangles_length bytes count stride xs whole e =
     let codes = slice_range bytes 1 (1 + count / 3) in
     let unread = slice_range bytes (1 + count / 3) (length bytes - 16) in
@@ -139,8 +139,8 @@ checked_length stride list None (Err fault) xs n many e = absurd (cc)
 checked_length stride list None (Ok tail) xs n many e =
     bytes_of stride n list xs (many tail refl) (let_through (length tail == 4) (Ok (flat_map (le_bytes stride) list)) (Tail (length tail)) xs e)
 
-pub sequence_length : (bytes : List ℕ) (count stride : ℕ) (xs : List ℕ) → seq bytes count stride ≡ Ok xs → length xs ≡ count * stride
-unfolding seq
+pub sequence_length : (bytes : List ℕ) (count stride : ℕ) (xs : List ℕ) → decoded_sequence bytes count stride ≡ Ok xs → length xs ≡ count * stride
+unfolding decoded_sequence
 sequence_length bytes count stride xs e =
     let read = values count (drop 1 bytes) in
     let list = indices read.0 in

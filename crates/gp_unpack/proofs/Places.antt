@@ -10,7 +10,7 @@ use Rattle.gp_unpack.specs.PlainFields.{plain_views_at}
 
 -- ---- lengths
 
-abbrev padding : ℕ → List ℕ
+abbrev pub padding : ℕ → List ℕ
 padding at = replicate (aligned at - at) 0
 
 padding_length : (at : ℕ) → length (padding at) ≡ aligned at - at
@@ -29,7 +29,7 @@ end_grows at (n ∷ lengths) = omega (arith, end_grows (aligned at + n) lengths)
 -- ---- places
 
 -- at the start of a part, where the bytes behind the one before it are known
-begins : (at : ℕ) (bytes part rest more : List ℕ) → drop at bytes ≡ ((padding at ++ part) ++ rest) ++ more
+pub begins : (at : ℕ) (bytes part rest more : List ℕ) → drop at bytes ≡ ((padding at ++ part) ++ rest) ++ more
     → drop (aligned at) bytes ≡ part ++ (rest ++ more)
 begins at bytes part rest more e =
     let sum : at + (aligned at - at) ≡ aligned at = omega arith in
@@ -38,7 +38,7 @@ begins at bytes part rest more e =
     ap (λ n. drop n bytes) (sym sum) ∙ sym (drop-drop (aligned at - at) at bytes) ∙ ap (drop (aligned at - at)) (e ∙ apart)
     ∙ drop_at (padding at) (part ++ (rest ++ more)) (aligned at - at) (padding_length at)
 
-goes_on : (at : ℕ) (bytes part rest : List ℕ) → drop at bytes ≡ part ++ rest → drop (at + length part) bytes ≡ rest
+pub goes_on : (at : ℕ) (bytes part rest : List ℕ) → drop at bytes ≡ part ++ rest → drop (at + length part) bytes ≡ rest
 goes_on at bytes part rest e = sym (drop-drop (length part) at bytes) ∙ ap (drop (length part)) e ∙ drop_at part rest (length part) refl
 
 -- the views at these places have the parts as their contents

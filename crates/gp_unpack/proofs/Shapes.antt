@@ -40,7 +40,7 @@ pub same : {A : Type 0} (x y : A) → ◌≡◌ {A = Checked A} (Ok x) (Ok y) �
 same x y e = cc
 
 -- what a check says of each item holds for all
-each_has : {A B : Type 0} (P : B → Type 0) (f : ℕ → A → Checked B) (given : (i : ℕ) (x : A) (y : B) → f i x ≡ Ok y → P y) (at : ℕ) (xs : List A) (ys : List B) → each f at xs ≡ Ok ys → All P ys
+pub each_has : {A B : Type 0} (P : B → Type 0) (f : ℕ → A → Checked B) (given : (i : ℕ) (x : A) (y : B) → f i x ≡ Ok y → P y) (at : ℕ) (xs : List A) (ys : List B) → each f at xs ≡ Ok ys → All P ys
 each_has P f given at [] ys e = let none : [] ≡ ys = cc in subst (All P) none (All-nil P)
 each_has P f given at (x ∷ xs) ys e =
     step (f at x) (λ y. each f (at + 1) xs >>= λ zs. Ok (y ∷ zs)) ys e (λ y one more.

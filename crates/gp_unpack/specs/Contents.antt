@@ -3,9 +3,9 @@
 use Rattle.std.specs.Prelude.{◌≡◌, ℕ, ◌+◌, true, List, [], ◌∷◌, map, Option, Some, None, IfSome, Result, Ok, Err, ⊤}
 use Rattle.std.specs.List.{All}
 use Rattle.gp_groups.specs.declared.fault.StreamFault.{StreamFault}
-use Rattle.gp_groups.specs.Attributes.{attr}
-use Rattle.gp_groups.specs.Triangles.{tri}
-use Rattle.gp_groups.specs.Sequence.{seq}
+use Rattle.gp_groups.specs.Attributes.{decoded_attributes}
+use Rattle.gp_groups.specs.Triangles.{decoded_triangles}
+use Rattle.gp_groups.specs.Sequence.{decoded_sequence}
 use Rattle.gp_asset.specs.declared.storage.View.{View}
 use Rattle.gp_asset.specs.declared.storage.Packed.{Packed}
 use Rattle.gp_asset.specs.declared.storage.StreamMode.{StreamMode}
@@ -20,9 +20,9 @@ use Rattle.gp_asset.specs.Views.{is_stride_in, is_count_in}
 
 -- the bytes of so many elements of a stride, by the mode of their stream, or the first fault of the stream
 unfoldable pub decoded : StreamMode → List ℕ → ℕ → ℕ → Result (List ℕ) StreamFault
-decoded Attributes bytes count stride = attr bytes count stride
-decoded Triangles bytes count stride = tri bytes count stride
-decoded Indices bytes count stride = seq bytes count stride
+decoded Attributes bytes count stride = decoded_attributes bytes count stride
+decoded Triangles bytes count stride = decoded_triangles bytes count stride
+decoded Indices bytes count stride = decoded_sequence bytes count stride
 
 -- a view with a compressed form holds what its stream means, and another a slice of its buffer
 abbrev pub contents_by : List (Option (List ℕ)) → View → Option Packed → Result (List ℕ) StreamFault

@@ -13,10 +13,10 @@ use Rattle.std.proofs.lemmas.List.FromFn.{length-map-range_with_len, get_or-map-
 use Rattle.gp_groups.specs.Group.{group, group_size, coded, zigzag, unzigzag}
 use Rattle.gp_groups.specs.Steps.{in_row}
 use Rattle.gp_groups.specs.WrittenGroup.{at_least, best, cost}
-use Rattle.gp_groups.specs.Attributes.{attr, block, block_len, block_lens, column, element_byte, elements, group_piece, mode_at, part, with_tail}
+use Rattle.gp_groups.specs.Attributes.{block, block_len, block_lens, column, decoded_attributes, element_byte, elements, group_piece, mode_at, part, with_tail}
 use Rattle.gp_groups.specs.declared.fault.StreamFault.{StreamFault}
 use Rattle.gp_groups.specs.declared.fault.StreamFault.TheVariants.{Header, Short, Tail}
-use Rattle.gp_groups.specs.WrittenAttributes.{attrw, coded_delta, group_values, header_byte, written_best, written_block, written_part}
+use Rattle.gp_groups.specs.WrittenAttributes.{coded_delta, encoded_attributes, group_values, header_byte, written_best, written_block, written_part}
 use Rattle.gp_groups.proofs.ReadBack.{IsLeast, shortest, written_size}
 use Rattle.gp_vertex.proofs.RoundTrip.{best_below, constant, first_long, values_kept}
 use Rattle.gp_vertex.proofs.Stages.{begins, blocks_of, len_of}
@@ -382,8 +382,8 @@ stream_found_in other source count stride (Some row) some read e =
       | inr h ↦ no_meaning _ (Tail (length row.1)) source (rw h.0 at e)
     ]
 
-pub stream_found : (other source : List ℕ) (count stride : ℕ) → attr other count stride ≡ Ok source → StreamFound other source count stride
-unfolding attr
+pub stream_found : (other source : List ℕ) (count stride : ℕ) → decoded_attributes other count stride ≡ Ok source → StreamFound other source count stride
+unfolding decoded_attributes
 stream_found other source count stride e =
     elim (eqb_tells (get_or other 0 0) 0xA0) [
       | inl h ↦ (let some : 0 < length other = elim (cases_lt 0 (length other)) [
@@ -445,8 +445,8 @@ above other source count stride f k p some hk hp i hi =
     let found_at = column_at other source count stride f k p i some hk hp hi in
     omega (arith, least, found_at)
 
-written_long : (source : List ℕ) (count stride : ℕ) → length source ≡ count * stride → length (attrw source count stride) ≡ 1 + length (flat_map (written_block source count stride) (range_with_len 0 (blocks_of count stride))) + (max 32 stride - stride) + stride
-unfolding attrw
+written_long : (source : List ℕ) (count stride : ℕ) → length source ≡ count * stride → length (encoded_attributes source count stride) ≡ 1 + length (flat_map (written_block source count stride) (range_with_len 0 (blocks_of count stride))) + (max 32 stride - stride) + stride
+unfolding encoded_attributes
 written_long source count stride long =
     let body = flat_map (written_block source count stride) (range_with_len 0 (blocks_of count stride)) in
     let pad : List ℕ = replicate (max 32 stride - stride) 0 in
@@ -455,7 +455,7 @@ written_long source count stride long =
     omega (arith, length-append ((0xA0 ∷ body) ++ pad) base, length-append (0xA0 ∷ body) pad, length-replicate {A = ℕ} (max 32 stride - stride) 0, last)
 
 -- no stream of these elements is shorter
-pub least_stream : (source other : List ℕ) (count stride : ℕ) → 0 < block_len stride → length source ≡ count * stride → attr other count stride ≡ Ok source → length (attrw source count stride) ≤ length other
+pub least_stream : (source other : List ℕ) (count stride : ℕ) → 0 < block_len stride → length source ≡ count * stride → decoded_attributes other count stride ≡ Ok source → length (encoded_attributes source count stride) ≤ length other
 least_stream source other count stride some long e =
     let f = stream_found other source count stride e in
     let row = row_least (block stride) (len_of count stride) (written_block source count stride) (λ k parts. (p : ℕ) → p < stride → Above source stride (k * block_len stride) (len_of count stride k) p (get_or parts p [])) [] 0 (blocks_of count stride) (drop 1 other) f.tail f.blocks

@@ -1,6 +1,6 @@
 // Reading attribute streams.
 ghost use Rattle.std.specs.Prelude.{◌≡◌, ◌-◌, ◌*◌, ◌%◌, ◌<◌, ◌≤◌, length, take, drop, MatchOption, IfSome, None};
-ghost use Rattle.gp_groups.specs.Attributes.{attr, block, block_len, block_lens};
+ghost use Rattle.gp_groups.specs.Attributes.{block, block_len, block_lens, decoded_attributes};
 ghost use Rattle.gp_groups.specs.Steps.{filled, in_row};
 ghost use Rattle.gp_vertex.specs.Decoding.{BlocksLeft};
 
@@ -23,7 +23,7 @@ pub fn decode_attributes(
     requires least { 4 ≤ stride }
     requires most { stride ≤ 256 }
     requires room { length dest.old ≡ count * stride }
-    ensures { attr bytes.now count stride ≡ filled result dest.new }
+    ensures { decoded_attributes bytes.now count stride ≡ filled result dest.new }
 {
     if bytes.is_empty() || bytes[0] != 0xA0 {
         return Err(StreamFault::Header);

@@ -1,5 +1,5 @@
 use Rattle.std.proofs.Common.{◌≡◌, ◌<◌, ◌+◌, ◌*◌, ◌∷◌, arith, ap, append_assoc, length}
-use Rattle.gp_groups.specs.WrittenTriangles.{triw}
+use Rattle.gp_groups.specs.WrittenTriangles.{encoded_triangles}
 use Rattle.gp_index.specs.Encoding.{bytes_of, standing_of}
 use Rattle.gp_index.proofs.ListsBack.{in_four, in_two}
 use Rattle.gp_index.proofs.Writing.{all_written, first_pieces, next_bytes, next_codes}
@@ -27,7 +27,7 @@ pub returns : goal.returns
 returns c =
     let list = c.args.indices.now in
     let bytes = c.extend_from_slice-2.new.self.items in
-    let value : bytes ≡ triw list =
+    let value : bytes ≡ encoded_triangles list =
     rw (c.in_ok-extend_from_slice-2.ensures.items, c.deref.ensures.value, c.in_ok-extend_from_slice.ensures.items, ← append_assoc)
     (all_written list c.triangles.bytes.items c.triangles.behind.items c.triangles.k (standing_of c.triangles.encoder) (omega (arith, c.triangles-test.false, c.requires.triangles)) c.triangles.invariant.codes c.triangles.invariant.behind) in
     record {

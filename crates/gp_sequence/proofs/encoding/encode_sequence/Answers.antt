@@ -1,6 +1,6 @@
 use Rattle.std.proofs.Common.{◌≡◌, arith, ◌∙◌}
 use Rattle.gp_groups.specs.Varint.{spelled}
-use Rattle.gp_groups.specs.WrittenSequence.{seqw}
+use Rattle.gp_groups.specs.WrittenSequence.{encoded_sequence}
 use Rattle.gp_sequence.proofs.Writing.{wide_back, narrow_back, next_written, last_written}
 use Rattle.gp_sequence.proofs.encoding.encode_sequence.Goals as goal
 
@@ -15,7 +15,7 @@ indices-preserved c = record {
 pub returns : goal.returns
 returns c =
     let list = c.args.indices.now in
-    let written : c.extend_from_slice.new.self.items ≡ seqw list = c.in_ok-extend_from_slice.ensures.items ∙ last_written list c.indices.bytes.items c.indices.k c.indices.baselines.number c.indices.baselines.used c.indices.baselines.other (omega arith) c.indices.invariant.so_far in
+    let written : c.extend_from_slice.new.self.items ≡ encoded_sequence list = c.in_ok-extend_from_slice.ensures.items ∙ last_written list c.indices.bytes.items c.indices.k c.indices.baselines.number c.indices.baselines.used c.indices.baselines.other (omega arith) c.indices.invariant.so_far in
     record {
       written = written;
       read_back = rw written (wide_back list c.requires);
