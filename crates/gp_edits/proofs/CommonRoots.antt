@@ -16,10 +16,10 @@ use Rattle.gp_edits.proofs.KeyNames.{used_key, required_key, buffers_key, views_
 
 -- ---- the names of the extension
 
-abbrev listed : PlainTree → PlainTree
+abbrev pub listed : PlainTree → PlainTree
 listed t = without_text extension_name t
 
-names_are : (t : PlainTree) → common_names t ≡ alter required_key (unless_empty listed) (alter used_key (unless_empty listed) t)
+pub names_are : (t : PlainTree) → common_names t ≡ alter required_key (unless_empty listed) (alter used_key (unless_empty listed) t)
 unfolding common_names
 names_are t = left_out_is required_key listed (left_out used_key listed t) ∙ ap (alter required_key (unless_empty listed)) (left_out_is used_key listed t)
 
@@ -43,13 +43,13 @@ names_common t used required =
 
 -- ---- all else
 
-abbrev shared_views : PlainTree → PlainTree
+abbrev pub shared_views : PlainTree → PlainTree
 shared_views t = with_items (map common_view) t
 
-abbrev others : PlainTree → PlainTree
+abbrev pub others : PlainTree → PlainTree
 others t = at_member views_key shared_views (without buffers_key t)
 
-others_are : (t : PlainTree) → others t ≡ alter views_key (made shared_views) (alter buffers_key gone t)
+pub others_are : (t : PlainTree) → others t ≡ alter views_key (made shared_views) (alter buffers_key gone t)
 others_are t = changed_is views_key shared_views (without buffers_key t) ∙ ap (alter views_key (made shared_views)) (removed_is buffers_key t)
 
 others_named : (t : PlainTree) → others (without_extension_named t) ≡ without_extension_named (others t)
@@ -65,7 +65,7 @@ others_named t =
     ∙ sym (ap (λ u. alter required_key E (alter used_key E u)) (others_are t))
     ∙ sym (names_out_are (others t))
 
-once_others : (key : List ℕ) (t : PlainTree) → IsApart key views_key → IsApart key buffers_key → HasOnce key t → HasOnce key (others t)
+pub once_others : (key : List ℕ) (t : PlainTree) → IsApart key views_key → IsApart key buffers_key → HasOnce key t → HasOnce key (others t)
 once_others key t a b one = once_changed key views_key shared_views (without buffers_key t) a (once_removed key buffers_key t b one)
 
 pub named_common : (t : PlainTree) → HasOnce used_key t → HasOnce required_key t → common (without_extension_named t) ≡ common t

@@ -10,7 +10,7 @@ use Rattle.gp_edits.proofs.Members.{IsOwn, IsApart, names_apart, alter, once, se
 use Rattle.gp_edits.proofs.Emptied.{unless_empty, emptied_is, left_out_is, absorbed, value_distinct}
 use Rattle.gp_edits.proofs.KeyNames.{extensions_key, buffer_key, offset_key, buffer_is_own, offset_is_own}
 
-abbrev unplaced : PlainTree → PlainTree
+abbrev pub unplaced : PlainTree → PlainTree
 unplaced v = without offset_key (without buffer_key v)
 
 set_left_out : (key : List ℕ) (value v : PlainTree) → IsApart extensions_key key → IsOwn key

@@ -82,7 +82,7 @@ filtered_case : (b : Bool) (q : PlainTree → Bool) (t : PlainTree) (ts : List P
 filtered_case true q t ts n ih = rw n (rw n (ap (λ l. t ∷ l) ih))
 filtered_case false q t ts n ih = rw n ih
 
-filtered_twice : (q : PlainTree → Bool) (ts : List PlainTree) → filter q (filter q ts) ≡ filter q ts
+pub filtered_twice : (q : PlainTree → Bool) (ts : List PlainTree) → filter q (filter q ts) ≡ filter q ts
 filtered_twice q [] = refl
 filtered_twice q (t ∷ ts) = filtered_case (q t) q t ts refl (filtered_twice q ts)
 

@@ -2,6 +2,7 @@
 use Rattle.std.specs.Prelude.{codes}
 use Rattle.std.specs.Str.{chars}
 use Rattle.std.proofs.Common.{ℕ, List, refl}
+use Rattle.gp_edits.specs.Edits.{extension_name}
 use Rattle.gp_edits.proofs.Members.{IsOwn}
 
 abbrev pub extensions_key : List ℕ
@@ -44,3 +45,19 @@ offset_is_own = refl
 pub length_is_own : IsOwn length_key
 unfolding chars
 length_is_own = refl
+
+pub extensions_is_own : IsOwn extensions_key
+unfolding chars
+extensions_is_own = refl
+
+pub used_is_own : IsOwn used_key
+unfolding chars
+used_is_own = refl
+
+pub required_is_own : IsOwn required_key
+unfolding chars
+required_is_own = refl
+
+pub name_is_own : IsOwn extension_name
+unfolding chars
+name_is_own = refl

@@ -3,6 +3,9 @@ pub mod KeyNames
 pub mod Emptied
 pub mod EmptiedMembers
 pub mod Empties
+pub mod Defaults
+pub mod MadeValues
+pub mod Compressions
 pub mod Texts
 pub mod CommonViews
 pub mod CommonRoots
@@ -17,4 +20,10 @@ pub mod AssetsBack
 pub mod PlainBack
 pub mod EachView
 pub mod ViewsIn
+pub mod PackedBack
+pub mod PackedBackNames
+pub mod PackCommon
+pub mod PackSounds
+pub mod OneMore
+pub mod Own
 mod Examples

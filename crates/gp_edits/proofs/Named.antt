@@ -30,44 +30,44 @@ use Rattle.gp_edits.proofs.KeyNames.{extensions_key, used_key, required_key, buf
 abbrev pub AreAmong : List (List ℕ) → List (List ℕ) → Type 0
 AreAmong us vs = (q : List ℕ → Bool) → list_any q us ≡ true → list_any q vs ≡ true
 
-or_right : (a b : Bool) → b ≡ true → (a || b) ≡ true
+pub or_right : (a b : Bool) → b ≡ true → (a || b) ≡ true
 or_right true b h = refl
 or_right false b h = h
 
-or_both : (a b c d : Bool) → (a ≡ true → c ≡ true) → (b ≡ true → d ≡ true) → (a || b) ≡ true → (c || d) ≡ true
+pub or_both : (a b c d : Bool) → (a ≡ true → c ≡ true) → (b ≡ true → d ≡ true) → (a || b) ≡ true → (c || d) ≡ true
 or_both true b c d f g h = ap (λ x. x || d) (f refl)
 or_both false b c d f g h = or_right c d (g h)
 
-same_among : (us : List (List ℕ)) → AreAmong us us
+pub same_among : (us : List (List ℕ)) → AreAmong us us
 same_among us q h = h
 
-none_among : (vs : List (List ℕ)) → AreAmong [] vs
+pub none_among : (vs : List (List ℕ)) → AreAmong [] vs
 none_among vs q h = absurd (cc)
 
-both_among : (us vs ws xs : List (List ℕ)) → AreAmong us ws → AreAmong vs xs → AreAmong (us ++ vs) (ws ++ xs)
+pub both_among : (us vs ws xs : List (List ℕ)) → AreAmong us ws → AreAmong vs xs → AreAmong (us ++ vs) (ws ++ xs)
 both_among us vs ws xs f g q h = list_any-append q ws xs ∙ or_both (list_any q us) (list_any q vs) (list_any q ws) (list_any q xs) (f q) (g q) (sym (list_any-append q us vs) ∙ h)
 
-later_among : (us vs : List (List ℕ)) → AreAmong vs (us ++ vs)
+pub later_among : (us vs : List (List ℕ)) → AreAmong vs (us ++ vs)
 later_among us vs q h = list_any-append q us vs ∙ or_right (list_any q us) (list_any q vs) h
 
-rest_among : (k : List ℕ) (us vs : List (List ℕ)) → AreAmong us vs → AreAmong us (k ∷ vs)
+pub rest_among : (k : List ℕ) (us vs : List (List ℕ)) → AreAmong us vs → AreAmong us (k ∷ vs)
 rest_among k us vs f q h = or_right (q k) (list_any q vs) (f q h)
 
-more_among : (k : List ℕ) (us vs : List (List ℕ)) → AreAmong us vs → AreAmong (k ∷ us) (k ∷ vs)
+pub more_among : (k : List ℕ) (us vs : List (List ℕ)) → AreAmong us vs → AreAmong (k ∷ us) (k ∷ vs)
 more_among k us vs f q h = or_both (q k) (list_any q us) (q k) (list_any q vs) (λ e. e) (f q) h
 
 -- ---- the keys under `extensions`
 
-abbrev under : PlainTree → List (List ℕ)
+abbrev pub under : PlainTree → List (List ℕ)
 under t = keys_under extensions_key t
 
-abbrev members_under : List PlainMember → List (List ℕ)
+abbrev pub members_under : List PlainMember → List (List ℕ)
 members_under ms = members_keys_under extensions_key (members_of ms)
 
-abbrev keys_of : List PlainMember → List (List ℕ)
+abbrev pub keys_of : List PlainMember → List (List ℕ)
 keys_of ms = map (λ (m : PlainMember). m.0) ms
 
-abbrev from_member : List ℕ → PlainTree → List (List ℕ)
+abbrev pub from_member : List ℕ → PlainTree → List (List ℕ)
 from_member s v = own_keys extensions_key s v ++ under v
 
 -- a value that has no key, of its own or under `extensions`, that the other hasn't
@@ -174,7 +174,7 @@ set_no_more k v (members ms) apart own e =
 
 -- ---- items
 
-abbrev items_under : PlainTrees → List (List ℕ)
+abbrev pub items_under : PlainTrees → List (List ℕ)
 items_under ts = items_keys_under extensions_key ts
 
 items_no_more : (change : ℕ → PlainTree → PlainTree) (values : List ℕ) (ts : PlainTrees)
@@ -292,7 +292,7 @@ in_use_among u t used required keys =
     both_among (listed used_key u ++ listed required_key u) (under u) (listed used_key t ++ listed required_key t) (under t)
     (both_among (listed used_key u) (listed required_key u) (listed used_key t) (listed required_key t) used required) keys
 
-listed_same : (key : List ℕ) (u t : PlainTree) → find_member key u ≡ find_member key t → AreAmong (listed key u) (listed key t)
+pub listed_same : (key : List ℕ) (u t : PlainTree) → find_member key u ≡ find_member key t → AreAmong (listed key u) (listed key t)
 listed_same key u t e = subst (λ found. AreAmong (texts_in found) (listed key t)) (sym e) (same_among (listed key t))
 
 pub names_out_no_more : (t : PlainTree) → HasOnce used_key t → HasOnce required_key t
@@ -391,7 +391,7 @@ foreign_or_not true vs us e h =
     absurd (cc)
 foreign_or_not false vs us e h = e
 
-still_false : (a b : Bool) → (b ≡ true → a ≡ true) → a ≡ false → b ≡ false
+pub still_false : (a b : Bool) → (b ≡ true → a ≡ true) → a ≡ false → b ≡ false
 still_false a true f e = let x : true ≡ false = sym (f refl) ∙ e in cc
 still_false a false f e = refl
 

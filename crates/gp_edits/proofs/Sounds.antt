@@ -20,17 +20,17 @@ use Rattle.gp_edits.proofs.KeyNames.{extensions_key, used_key, required_key, buf
 
 -- ---- names and numbers
 
-abbrev is_plain_byte : ℕ → Bool
+abbrev pub is_plain_byte : ℕ → Bool
 is_plain_byte x = nat_lt 31 x && nat_lt x 127 && not (x == 34) && not (x == 92)
 
-abbrev are_plain : List ℕ → Bool
+abbrev pub are_plain : List ℕ → Bool
 are_plain [] = true
 are_plain (x ∷ s) = is_plain_byte x && are_plain s
 
 byte_in_name : (x : ℕ) → is_plain_byte x ≡ true → IsNameByte x
 byte_in_name x h = (grind (arith, nat_tests), grind (arith, nat_tests), grind (arith, nat_tests), grind (arith, nat_tests))
 
-both_0 : (a b : Bool) → (a && b) ≡ true → a ≡ true
+pub both_0 : (a b : Bool) → (a && b) ≡ true → a ≡ true
 both_0 true b h = refl
 both_0 false b h = h
 
@@ -38,11 +38,11 @@ both_1 : (a b : Bool) → (a && b) ≡ true → b ≡ true
 both_1 true b h = h
 both_1 false b h = absurd (cc)
 
-a_name : (s : List ℕ) → are_plain s ≡ true → IsName s
+pub a_name : (s : List ℕ) → are_plain s ≡ true → IsName s
 a_name [] h = tt
 a_name (x ∷ s) h = (byte_in_name x (both_0 (is_plain_byte x) (are_plain s) h), a_name s (both_1 (is_plain_byte x) (are_plain s) h))
 
-number_fits : (n : ℕ) → n < 2 ^ 64 → Fits (whole_number n)
+pub number_fits : (n : ℕ) → n < 2 ^ 64 → Fits (whole_number n)
 number_fits n h = (record { spelled = decimal_number n h; shallow = omega arith; distinct = tt }, omega arith)
 
 -- ---- a value that stays sound, and within a depth
@@ -53,7 +53,7 @@ IsWithin n v = IsSound v × (depth v ≤ n)
 removed_within : (n : ℕ) (key : List ℕ) (v : PlainTree) → IsWithin n v → IsWithin n (without key v)
 removed_within n key v h = (sound_remove key v h.0, omega (arith, removed_depth key v, h.1))
 
-found_within : (n : ℕ) (key : List ℕ) (v w : PlainTree) → IsWithin n v → find_member key v ≡ Some w → IsSound w × (depth w < n)
+pub found_within : (n : ℕ) (key : List ℕ) (v w : PlainTree) → IsWithin n v → find_member key v ≡ Some w → IsSound w × (depth w < n)
 found_within n key v w h e = let x = value_sound key w v h.0 e in (x.0, omega (arith, x.1, h.1))
 
 changed_within : (n : ℕ) (key : List ℕ) (f : PlainTree → PlainTree) (v : PlainTree) → n ≤ 128 → IsWithin n v
@@ -98,20 +98,21 @@ uncompressed_within n v low h =
 
 -- ---- items
 
-abbrev AreWithin : ℕ → PlainTrees → Type 0
+abbrev pub AreWithin : ℕ → PlainTrees → Type 0
 AreWithin n ts = AreItemsSpelled ts × (items_depth ts ≤ n) × ItemsHaveDistinctKeys ts
 
-abbrev pub KeepsWithin : ℕ → (ℕ → PlainTree → PlainTree) → Type 0
-KeepsWithin n change = (a : ℕ) (v : PlainTree) → a < 2 ^ 64 → IsWithin n v → IsWithin n (change a v)
+-- a change keeps a value so, with each value of which P holds
+abbrev pub KeepsWithin : {A : Type 0} → (A → Type 0) → ℕ → (A → PlainTree → PlainTree) → Type 0
+KeepsWithin {A} P n change = (a : A) (v : PlainTree) → P a → IsWithin n v → IsWithin n (change a v)
 
-items_within : (n : ℕ) (change : ℕ → PlainTree → PlainTree) (values : List ℕ) (ts : PlainTrees) → n ≤ 128 → Each (λ a. a < 2 ^ 64) values
-    → KeepsWithin n change → AreWithin n ts → AreWithin n (trees_of (change_each change values (item_list ts)))
-items_within n change [] ts low small keeps h = subst (AreWithin n) (sym (trees_back ts)) h
-items_within n change (a ∷ values) no_items low small keeps h = h
-items_within n change (a ∷ values) (item t ts) low small keeps h =
+items_within : {A : Type 0} (P : A → Type 0) (n : ℕ) (change : A → PlainTree → PlainTree) (values : List A) (ts : PlainTrees) → n ≤ 128 → Each P values
+    → KeepsWithin P n change → AreWithin n ts → AreWithin n (trees_of (change_each change values (item_list ts)))
+items_within P n change [] ts low small keeps h = subst (AreWithin n) (sym (trees_back ts)) h
+items_within P n change (a ∷ values) no_items low small keeps h = h
+items_within P n change (a ∷ values) (item t ts) low small keeps h =
     let s : IsWithin n t = (record { spelled = h.0.0; shallow = omega (arith, h.1, low); distinct = h.2.0 }, omega (arith, h.1)) in
     let k : IsWithin n (change a t) = keeps a t small.0 s in
-    let r : AreWithin n (trees_of (change_each change values (item_list ts))) = items_within n change values ts low small.1 keeps (h.0.1, omega (arith, h.1), h.2.1) in
+    let r : AreWithin n (trees_of (change_each change values (item_list ts))) = items_within P n change values ts low small.1 keeps (h.0.1, omega (arith, h.1), h.2.1) in
     ((k.0.spelled, r.0), omega (arith, k.1, r.1), (k.0.distinct, r.2))
 
 filtered_case : (b : Bool) (n : ℕ) (q : PlainTree → Bool) (t : PlainTree) (ts : List PlainTree) → q t ≡ b
@@ -123,20 +124,20 @@ filtered_within : (n : ℕ) (q : PlainTree → Bool) (ts : List PlainTree) → A
 filtered_within n q [] h = h
 filtered_within n q (t ∷ ts) h = filtered_case (q t) n q t ts refl h (filtered_within n q ts (h.0.1, omega (arith, h.1), h.2.1))
 
-list_within : (n : ℕ) (ts us : PlainTrees) → n < 128 → IsSound (list ts) → depth (list ts) < n + 2 → (AreWithin n ts → AreWithin n us)
+pub list_within : (n : ℕ) (ts us : PlainTrees) → n < 128 → IsSound (list ts) → depth (list ts) < n + 2 → (AreWithin n ts → AreWithin n us)
     → IsSound (list us) × (depth (list us) < n + 2)
 list_within n ts us low h d q =
     let r : AreWithin n us = q (h.spelled, omega (arith, d), h.distinct) in
     (record { spelled = r.0; shallow = omega (arith, r.1, low); distinct = r.2 }, omega (arith, r.1))
 
-pub views_fit : (change : ℕ → PlainTree → PlainTree) (values : List ℕ) (v : PlainTree) → Each (λ a. a < 2 ^ 64) values
-    → KeepsWithin 126 change → Fits v → Fits (with_items (change_each change values) v)
-views_fit change values null small keeps h = h
-views_fit change values (truth b) small keeps h = h
-views_fit change values (number s) small keeps h = h
-views_fit change values (text s) small keeps h = h
-views_fit change values (members ms) small keeps h = h
-views_fit change values (list ts) small keeps h = list_within 126 ts (trees_of (change_each change values (item_list ts))) (omega arith) h.0 h.1 (items_within 126 change values ts (omega arith) small keeps)
+pub views_fit : {A : Type 0} (P : A → Type 0) (change : A → PlainTree → PlainTree) (values : List A) (v : PlainTree) → Each P values
+    → KeepsWithin P 126 change → Fits v → Fits (with_items (change_each change values) v)
+views_fit P change values null small keeps h = h
+views_fit P change values (truth b) small keeps h = h
+views_fit P change values (number s) small keeps h = h
+views_fit P change values (text s) small keeps h = h
+views_fit P change values (members ms) small keeps h = h
+views_fit P change values (list ts) small keeps h = list_within 126 ts (trees_of (change_each change values (item_list ts))) (omega arith) h.0 h.1 (items_within P 126 change values ts (omega arith) small keeps)
 
 text_out_fits : (name : List ℕ) (v : PlainTree) → Fits v → Fits (without_text name v)
 text_out_fits name null h = h
@@ -150,22 +151,22 @@ text_out_fits name (list ts) h =
 
 -- ---- the root
 
-found_fits : (key : List ℕ) (t v : PlainTree) → IsSound t → find_member key t ≡ Some v → Fits v
+pub found_fits : (key : List ℕ) (t v : PlainTree) → IsSound t → find_member key t ≡ Some v → Fits v
 found_fits key t v h e = let x = value_sound key v t h e in (x.0, omega (arith, x.1, h.shallow))
 
-pub views_sound : (change : ℕ → PlainTree → PlainTree) (values : List ℕ) (t : PlainTree) → Each (λ a. a < 2 ^ 64) values
-    → KeepsWithin 126 change → IsSound t → IsSound (at_member views_key (with_items (change_each change values)) t)
-views_sound change values t small keeps h =
-    sound_change views_key (with_items (change_each change values)) t h (λ v e. views_fit change values v small keeps (found_fits views_key t v h e))
+pub views_sound : {A : Type 0} (P : A → Type 0) (change : A → PlainTree → PlainTree) (values : List A) (t : PlainTree) → Each P values
+    → KeepsWithin P 126 change → IsSound t → IsSound (at_member views_key (with_items (change_each change values)) t)
+views_sound P change values t small keeps h =
+    sound_change views_key (with_items (change_each change values)) t h (λ v e. views_fit P change values v small keeps (found_fits views_key t v h e))
 
 pub plain_views_sound : (starts : List ℕ) (t : PlainTree) → Each (λ a. a < 2 ^ 64) starts → IsSound t → IsSound (with_plain_views_at starts t)
 plain_views_sound starts t small h =
-    views_sound plain_view_at starts t small (λ start v a k. placed_within 126 0 start (without_compression v) (omega arith) a (omega arith) (uncompressed_within 126 v (omega arith) k)) h
+    views_sound (λ start. start < 2 ^ 64) plain_view_at starts t small (λ start v a k. placed_within 126 0 start (without_compression v) (omega arith) a (omega arith) (uncompressed_within 126 v (omega arith) k)) h
 
-empty_object : IsSound (members no_members)
+pub empty_object : IsSound (members no_members)
 empty_object = record { spelled = tt; shallow = omega arith; distinct = (λ i j d l k. absurd (omega arith), tt) }
 
-empty_list : IsSound (list no_items)
+pub empty_list : IsSound (list no_items)
 empty_list = record { spelled = tt; shallow = omega arith; distinct = tt }
 
 one_buffer_sound : (length : ℕ) → length < 2 ^ 64 → IsSound (list (item (sized_buffer length) no_items))

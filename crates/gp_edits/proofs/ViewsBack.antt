@@ -102,7 +102,7 @@ packed_same : (n : ℕ) (t u : PlainTree) → find_member (codes "extensions") u
 packed_same n t u e = ap (option_and_then (λ extensions. optional extensions (codes "EXT_meshopt_compression") (object_of (packed_fields n)))) (defaulted_same (codes "extensions") empty_object an_object t u e)
 
 -- where its other members are as those of a view that was read
-placed_read : (n buffer offset : ℕ) (v : PlainTree) (f : ViewFields) (pack : Option PackedFields) → IsObject v → buffer < n → buffer < 2 ^ 32 → offset < 2 ^ 32
+pub placed_read : (n buffer offset : ℕ) (v : PlainTree) (f : ViewFields) (pack : Option PackedFields) → IsObject v → buffer < n → buffer < 2 ^ 32 → offset < 2 ^ 32
     → required v (codes "byteLength") whole ≡ Some f.length → optional v (codes "byteStride") whole ≡ Some f.stride → packed_of n v ≡ Some pack
     → object_of (view_fields n) (placed buffer offset v) ≡ Some (record { buffer = buffer; offset = offset; length = f.length; stride = f.stride; packed = pack })
 placed_read n buffer offset v f pack o within small low length stride packed =
@@ -142,19 +142,19 @@ unfolding without_compression
 plain_other name v d = emptied_other name (codes "extensions") (without extension_name) v d
 
 -- what is read of the extension object, by the value of `extensions`
-abbrev packed_in : ℕ → Option PlainTree → Option (Option PackedFields)
+abbrev pub packed_in : ℕ → Option PlainTree → Option (Option PackedFields)
 packed_in n found = option_and_then (λ extensions. optional extensions (codes "EXT_meshopt_compression") (object_of (packed_fields n))) (option_map (λ o. unwrap_or o empty_object) (read_of an_object found))
 
-packed_is : (n : ℕ) (v : PlainTree) → packed_of n v ≡ packed_in n (find_member (codes "extensions") v)
+pub packed_is : (n : ℕ) (v : PlainTree) → packed_of n v ≡ packed_in n (find_member (codes "extensions") v)
 packed_is n v =
     ap (λ read. option_and_then (λ extensions. optional extensions (codes "EXT_meshopt_compression") (object_of (packed_fields n))) (option_map (λ o. unwrap_or o empty_object) read))
     (optional_is (codes "extensions") an_object v (find_member (codes "extensions") v) refl)
 
-none_in_empty : (n : ℕ) → packed_in n None ≡ Some None
+pub none_in_empty : (n : ℕ) → packed_in n None ≡ Some None
 none_in_empty n = refl
 
 -- a value that is no object isn't read
-object_in : (n : ℕ) (value : PlainTree) (pack : Option PackedFields) → packed_in n (Some value) ≡ Some pack → IsObject value
+pub object_in : (n : ℕ) (value : PlainTree) (pack : Option PackedFields) → packed_in n (Some value) ≡ Some pack → IsObject value
 object_in n null pack e = absurd (cc)
 object_in n (truth b) pack e = absurd (cc)
 object_in n (number s) pack e = absurd (cc)
@@ -162,7 +162,7 @@ object_in n (text s) pack e = absurd (cc)
 object_in n (list ts) pack e = absurd (cc)
 object_in n (members ms) pack e = tt
 
-none_in : (m : ℕ) (value : PlainTree) → IsObject value → find_member extension_name value ≡ None → packed_in m (Some value) ≡ Some None
+pub none_in : (m : ℕ) (value : PlainTree) → IsObject value → find_member extension_name value ≡ None → packed_in m (Some value) ≡ Some None
 none_in m null o e = absurd o
 none_in m (truth b) o e = absurd o
 none_in m (number s) o e = absurd o

@@ -1,8 +1,11 @@
 -- How an asset of glTF 2.0 says where its bytes are, and that it uses EXT_meshopt_compression.
-use Rattle.std.specs.Prelude.{ℕ, List, codes}
-use Rattle.gp_json.specs.Plain.{PlainTree, list, members, no_items, item, no_members, member}
-use Rattle.gp_json.specs.TreeEdits.{with_member, without}
+use Rattle.std.specs.Prelude.{ℕ, true, List, [], ◌∷◌, unwrap_or, codes}
+use Rattle.gp_json.specs.Plain.{PlainTree, truth, text, list, members, no_items, item, no_members, member}
+use Rattle.gp_json.specs.Find.{find_member}
+use Rattle.gp_json.specs.TreeEdits.{with_member, without, and_items}
+use Rattle.gp_asset.specs.Kinds.{mode_name}
 use Rattle.gp_edits.specs.Changes.{whole_number, emptied, without_text}
+use Rattle.gp_edits.specs.declared.compression.Compression.{Compression}
 
 abbrev pub extension_name : List ℕ
 extension_name = codes "EXT_meshopt_compression"
@@ -17,6 +20,21 @@ placed buffer offset view = with_member (codes "byteOffset") (whole_number offse
 unfoldable pub without_compression : PlainTree → PlainTree
 without_compression view = emptied (codes "extensions") (without extension_name) view
 
+-- where its stream is in the first buffer, and what it holds
+abbrev pub compression_object : Compression → PlainTree
+compression_object c = members (
+    member (codes "buffer") (whole_number 0)
+    (member (codes "byteOffset") (whole_number c.offset)
+    (member (codes "byteLength") (whole_number c.length)
+    (member (codes "byteStride") (whole_number c.stride)
+    (member (codes "count") (whole_number c.count)
+    (member (codes "mode") (text (mode_name c.mode)) no_members))))))
+
+-- with this extension object, in its `extensions` or in a new member of this name
+unfoldable pub compressed : Compression → PlainTree → PlainTree
+compressed c view =
+    with_member (codes "extensions") (with_member extension_name (compression_object c) (unwrap_or (find_member (codes "extensions") view) (members no_members))) view
+
 -- ---- the root (section 5.17)
 
 -- a buffer of this length, and nothing else (section 5.10)
@@ -26,6 +44,23 @@ sized_buffer length = members (member (codes "byteLength") (whole_number length)
 -- this buffer alone
 unfoldable pub with_one_buffer : ℕ → PlainTree → PlainTree
 with_one_buffer length root = with_member (codes "buffers") (list (item (sized_buffer length) no_items)) root
+
+-- a buffer of this length without bytes, marked as one that is only fallen back on
+abbrev pub fallback_buffer : ℕ → PlainTree
+fallback_buffer length = members (
+    member (codes "byteLength") (whole_number length)
+    (member (codes "extensions") (members (member extension_name (members (member (codes "fallback") (truth true) no_members)) no_members)) no_members))
+
+-- a buffer of bytes, and one to fall back on
+unfoldable pub with_two_buffers : ℕ → ℕ → PlainTree → PlainTree
+with_two_buffers length fallback root = with_member (codes "buffers") (list (item (sized_buffer length) (item (fallback_buffer fallback) no_items))) root
+
+-- the name of the extension at the end of a list, which is made where it isn't there
+abbrev pub with_name_in : List ℕ → PlainTree → PlainTree
+with_name_in key root = with_member key (and_items (text extension_name ∷ []) (unwrap_or (find_member key root) (list no_items))) root
+
+unfoldable pub with_extension_named : PlainTree → PlainTree
+with_extension_named root = with_name_in (codes "extensionsRequired") (with_name_in (codes "extensionsUsed") root)
 
 -- the name of the extension taken out of both lists
 abbrev pub without_name_in : List ℕ → PlainTree → PlainTree

@@ -4,4 +4,7 @@ pub mod Common
 pub mod Steps
 pub mod Laws
 pub mod NameLaws
+pub mod PackLaws
 pub mod ReadingBack
+pub mod PackedBack
+pub mod Own

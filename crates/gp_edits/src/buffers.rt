@@ -1,7 +1,7 @@
 // The buffers of an asset (glTF 2.0, section 5.10).
-ghost use Rattle.std.specs.Prelude.{◌≡◌, OnOk};
+ghost use Rattle.std.specs.Prelude.{◌≡◌, IfOk, OnOk};
 ghost use Rattle.gp_json.specs.Plain.{plain};
-ghost use Rattle.gp_edits.specs.Edits.{with_one_buffer};
+ghost use Rattle.gp_edits.specs.Edits.{sized_buffer, fallback_buffer, with_one_buffer, with_two_buffers};
 
 use gp_host::NoMemory;
 use gp_json::Tree;
@@ -12,9 +12,45 @@ use std::alloc::Global;
 pub fn set_one_buffer(alloc: Global, root: &mut Tree, length: u64) -> Result<(), NoMemory>
     ensures { OnOk result (plain root.new ≡ with_one_buffer length (plain root.old)) }
 {
+    let mut buffers = Tree::list(alloc);
+    buffers.append(sized_buffer(alloc, length)?)?;
+    root.set(alloc, "buffers", buffers)
+}
+
+/// Makes a buffer of this many bytes and one to fall back on, without bytes, the buffers of an asset.
+#[tactic(auto, unfolding(crate::specs::Edits::with_two_buffers))]
+pub fn set_two_buffers(
+    alloc: Global,
+    root: &mut Tree,
+    length: u64,
+    fallback: u64,
+) -> Result<(), NoMemory>
+    ensures { OnOk result (plain root.new ≡ with_two_buffers length fallback (plain root.old)) }
+{
+    let mut buffers = Tree::list(alloc);
+    buffers.append(sized_buffer(alloc, length)?)?;
+    buffers.append(fallback_buffer(alloc, fallback)?)?;
+    root.set(alloc, "buffers", buffers)
+}
+
+// A buffer that is known by its length alone.
+fn sized_buffer(alloc: Global, length: u64) -> Result<Tree, NoMemory>
+    ensures { IfOk result (λ buffer. plain buffer ≡ sized_buffer length) }
+{
     let mut buffer = Tree::object(alloc);
     buffer.set(alloc, "byteLength", Tree::number(alloc, length)?)?;
-    let mut buffers = Tree::list(alloc);
-    buffers.append(buffer)?;
-    root.set(alloc, "buffers", buffers)
+    Ok(buffer)
+}
+
+// A buffer that is marked as one to fall back on.
+fn fallback_buffer(alloc: Global, length: u64) -> Result<Tree, NoMemory>
+    ensures { IfOk result (λ buffer. plain buffer ≡ fallback_buffer length) }
+{
+    let mut mark = Tree::object(alloc);
+    mark.set(alloc, "fallback", Tree::Truth(true))?;
+    let mut extensions = Tree::object(alloc);
+    extensions.set(alloc, "EXT_meshopt_compression", mark)?;
+    let mut buffer = sized_buffer(alloc, length)?;
+    buffer.set(alloc, "extensions", extensions)?;
+    Ok(buffer)
 }

@@ -3,6 +3,11 @@ ghost use Rattle.gp_edits.specs.Laws.{PlaceIsNotCommon, CompressionIsNotCommon};
 ghost use Rattle.gp_edits.specs.Laws.{NamesAreNotCommon, NamesAreNotInCommon, SetBufferIsNotCommon, BuffersAreNotCommon, ViewsStayCommon};
 ghost use Rattle.gp_edits.specs.Laws.{PlainStaysCommon, EmptyStaysCommon, PlainStaysSound, EmptyStaysSound};
 ghost use Rattle.gp_edits.specs.NameLaws.{PlainUsesNoMore, EmptyUsesNoMore};
+ghost use Rattle.gp_edits.specs.PackLaws.{AddedCompressionIsNotCommon, SetTwoBuffersIsNotCommon, AddedNamesAreNotInCommon};
+ghost use Rattle.gp_edits.specs.PackLaws.{PlacedStaysSound, CompressedStaysSound, WithTwoBuffersStaysSound, NamedStaysSound};
+ghost use Rattle.gp_edits.specs.PackLaws.{CompressionAddsItsName, TwoBuffersUseOneMore, NamesUseOneMore};
+ghost use Rattle.gp_edits.specs.Own.{PlacedChangesItsOwn, RemovedChangesItsOwn, CompressedChangesItsOwn, RemovedKeepsExtensions, CompressedKeepsExtensions};
+ghost use Rattle.gp_edits.specs.Own.{OneBufferChangesItsOwn, TwoBuffersChangeTheirOwn, UnnamedChangesItsOwn, NamedChangesItsOwn, UnnamedKeepsNames, NamedKeepsNames};
 
 /// What the trees of two assets have in common says nothing of where a view is, and whether it is compressed.
 pub fn common_views_stay()
@@ -35,4 +40,41 @@ pub fn plain_assets_stay_sound()
 pub fn plain_assets_use_no_more()
     ensures with_buffer { PlainUsesNoMore }
     ensures without { EmptyUsesNoMore }
+{}
+
+/// What is in common stays where a view is compressed, a second buffer is there, or the extension is named.
+pub fn packing_stays_common()
+    ensures compressed { AddedCompressionIsNotCommon }
+    ensures buffers { SetTwoBuffersIsNotCommon }
+    ensures named { AddedNamesAreNotInCommon }
+{}
+
+/// Such edits keep a tree sound.
+pub fn packing_stays_sound()
+    ensures placed { PlacedStaysSound }
+    ensures compressed { CompressedStaysSound }
+    ensures buffers { WithTwoBuffersStaysSound }
+    ensures named { NamedStaysSound }
+{}
+
+/// They bring no other extension than this one.
+pub fn packing_uses_one_more()
+    ensures compressed { CompressionAddsItsName }
+    ensures buffers { TwoBuffersUseOneMore }
+    ensures named { NamesUseOneMore }
+{}
+
+/// Each edit changes its own members alone; those that hold other extensions too, or other names, keep them.
+pub fn edits_change_their_own()
+    ensures placed { PlacedChangesItsOwn }
+    ensures removed { RemovedChangesItsOwn }
+    ensures removed_beside { RemovedKeepsExtensions }
+    ensures compressed { CompressedChangesItsOwn }
+    ensures compressed_beside { CompressedKeepsExtensions }
+    ensures one_buffer { OneBufferChangesItsOwn }
+    ensures two_buffers { TwoBuffersChangeTheirOwn }
+    ensures unnamed { UnnamedChangesItsOwn }
+    ensures unnamed_beside { UnnamedKeepsNames }
+    ensures named { NamedChangesItsOwn }
+    ensures named_beside { NamedKeepsNames }
 {}

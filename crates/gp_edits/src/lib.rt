@@ -5,20 +5,24 @@
 //!
 //! - `views`: the place and the extension object of a buffer view. - `each_view`: a change of each of them. -
 //!   `buffers`: the list of buffers. - `names`: the lists of extensions. - `emptying`: members that an edit empties. -
-//!   `laws`: what the edits keep. - `reading_back`: what is read from a tree after them.
+//!   `laws`: what the edits keep. - `reading_back`,
+//!   `packed_back`: what is read from a tree after them.
 #![tactic(auto)]
 
 mod buffers;
+mod compression;
 mod each_view;
 mod emptying;
 pub mod laws;
 mod names;
+pub mod packed_back;
 pub mod reading_back;
 #[cfg(test)]
 mod tests;
 mod views;
 
-pub use buffers::set_one_buffer;
+pub use buffers::{set_one_buffer, set_two_buffers};
+pub use compression::{Compression, compress_view};
 pub use each_view::{ViewEdits, edit_views};
-pub use names::remove_extension_names;
+pub use names::{add_extension_names, remove_extension_names};
 pub use views::{place_view, remove_compression};

@@ -1,12 +1,13 @@
 // The names of the extensions that an asset uses (glTF 2.0, section 3.12).
-ghost use Rattle.std.specs.Prelude.{◌≡◌, ◌↔◌, IsTrue, IsSome, not, filter};
-ghost use Rattle.gp_json.specs.Plain.{plain, plain_trees, trees_of};
+ghost use Rattle.std.specs.Prelude.{◌≡◌, ◌↔◌, IsTrue, IsSome, not, filter, OnOk, ◌∷◌, []};
+ghost use Rattle.gp_json.specs.Plain.{plain, plain_trees, trees_of, list, no_items};
 ghost use Rattle.gp_json.specs.Find.{IsList, find_member, item_list};
-ghost use Rattle.gp_json.specs.TreeEdits.{at_member};
+ghost use Rattle.gp_json.specs.TreeEdits.{at_member, with_member, and_items};
 ghost use Rattle.gp_edits.specs.Changes.{is_text_named, without_text};
-ghost use Rattle.gp_edits.specs.Edits.{extension_name, without_name_in, without_extension_named};
+ghost use Rattle.gp_edits.specs.Edits.{extension_name, without_name_in, without_extension_named, with_name_in, with_extension_named};
 
 use crate::emptying::{is_empty_member, remove_emptied};
+use gp_host::NoMemory;
 use gp_json::{Tree, Trees, key_is};
 use std::alloc::Global;
 
@@ -75,4 +76,41 @@ fn is_extension_name(value: &Tree) -> bool
         Tree::Text(spelling) => key_is(spelling, "EXT_meshopt_compression"),
         _ => false,
     }
+}
+
+/// Puts the name of the extension at the end of both lists, each of which is made where it isn't there.
+#[tactic(auto, unfolding(crate::specs::Edits::with_extension_named))]
+pub fn add_extension_names(alloc: Global, root: &mut Tree) -> Result<(), NoMemory>
+    ensures { OnOk result (plain root.new ≡ with_extension_named (plain root.old)) }
+{
+    add_name_in(alloc, root, "extensionsUsed")?;
+    add_name_in(alloc, root, "extensionsRequired")
+}
+
+// Puts the name at the end of one of the lists.
+fn add_name_in(alloc: Global, root: &mut Tree, key: &str) -> Result<(), NoMemory>
+    ensures { OnOk result (plain root.new ≡ with_name_in key.now (plain root.old)) }
+{
+    let name = Tree::text(alloc, "EXT_meshopt_compression")?;
+    if root.find(key).is_none() {
+        return add_list(alloc, root, key, name);
+    }
+    append_in(root, key, name)
+}
+
+// Puts a value at the end of the list that a member holds.
+fn append_in(root: &mut Tree, key: &str, value: Tree) -> Result<(), NoMemory>
+    requires { IsSome (find_member key.now (plain root.old)) }
+    ensures { OnOk result (plain root.new ≡ at_member key.now (and_items (plain value ∷ [])) (plain root.old)) }
+{
+    root.members_mut().find_mut(key).append(value)
+}
+
+// Makes a list of one value a member.
+fn add_list(alloc: Global, root: &mut Tree, key: &str, value: Tree) -> Result<(), NoMemory>
+    ensures { OnOk result (plain root.new ≡ with_member key.now (and_items (plain value ∷ []) (list no_items)) (plain root.old)) }
+{
+    let mut values = Tree::list(alloc);
+    values.append(value)?;
+    root.set(alloc, key, values)
 }

@@ -1,5 +1,9 @@
 //! Each edit once, from text to text.
-use crate::{place_view, remove_compression, remove_extension_names, set_one_buffer};
+use crate::{
+    Compression, add_extension_names, compress_view, place_view, remove_compression,
+    remove_extension_names, set_one_buffer, set_two_buffers,
+};
+use gp_asset::StreamMode;
 use gp_json::{print, read};
 use std::test::Fail;
 
@@ -60,6 +64,55 @@ fn the_name_is_removed(rt: HostRuntime) -> Result<(), Fail> {
     assert_eq!(rt;
         text.as_slice(),
         br#"{"extensionsUsed":["KHR_x"]}"#.as_slice()
+    );
+    Ok(())
+}
+
+#[test]
+fn a_view_is_compressed(rt: HostRuntime) -> Result<(), Fail> {
+    let alloc = rt.alloc();
+    let mut view = read(
+        alloc,
+        br#"{"buffer":1,"extensions":{"KHR_x":{}},"byteLength":64}"#,
+    )?;
+    let compression = Compression {
+        offset: 8,
+        length: 37,
+        stride: 4,
+        count: 16,
+        mode: StreamMode::Attributes,
+    };
+    compress_view(alloc, &mut view, compression)?;
+    let text = print(alloc, &view)?;
+    assert_eq!(rt;
+        text.as_slice(),
+        br#"{"buffer":1,"extensions":{"KHR_x":{},"EXT_meshopt_compression":{"buffer":0,"byteOffset":8,"byteLength":37,"byteStride":4,"count":16,"mode":"ATTRIBUTES"}},"byteLength":64}"#.as_slice()
+    );
+    Ok(())
+}
+
+#[test]
+fn two_buffers_are_left(rt: HostRuntime) -> Result<(), Fail> {
+    let alloc = rt.alloc();
+    let mut root = read(alloc, br#"{"buffers":[{"byteLength":3}],"scene":0}"#)?;
+    set_two_buffers(alloc, &mut root, 40, 64)?;
+    let text = print(alloc, &root)?;
+    assert_eq!(rt;
+        text.as_slice(),
+        br#"{"buffers":[{"byteLength":40},{"byteLength":64,"extensions":{"EXT_meshopt_compression":{"fallback":true}}}],"scene":0}"#.as_slice()
+    );
+    Ok(())
+}
+
+#[test]
+fn the_name_is_added(rt: HostRuntime) -> Result<(), Fail> {
+    let alloc = rt.alloc();
+    let mut root = read(alloc, br#"{"extensionsUsed":["KHR_x"],"scene":0}"#)?;
+    add_extension_names(alloc, &mut root)?;
+    let text = print(alloc, &root)?;
+    assert_eq!(rt;
+        text.as_slice(),
+        br#"{"extensionsUsed":["KHR_x","EXT_meshopt_compression"],"scene":0,"extensionsRequired":["EXT_meshopt_compression"]}"#.as_slice()
     );
     Ok(())
 }

@@ -28,13 +28,25 @@ pub fn lay<V: ViewBytes>(alloc: Global, views: &V, count: usize) -> Result<Row, 
     ensures { IfOk result (λ row. row ≡ row_of (held (V.views views.now))) }
 {
     let mut row = Row {
-        bytes: Vec::new(alloc),
-        starts: Vec::new(alloc),
+        bytes: Vec::with_capacity(alloc, room(views, count))?,
+        starts: Vec::with_capacity(alloc, count)?,
     };
     'views: for at in 0..count {
         row.append(views.view(at))?;
     }
     Ok(row)
+}
+
+// How many bytes the row of these views has, where it has less than the greatest number.
+fn room<V: ViewBytes>(views: &V, count: usize) -> usize
+    requires { HasEach (V.views views.now) count }
+{
+    let mut room: usize = 0;
+    'lengths: for at in 0..count {
+        let start = (room.saturating_add(3) / 4).saturating_mul(4);
+        room = start.saturating_add(views.view(at).len());
+    }
+    room
 }
 
 impl Row {

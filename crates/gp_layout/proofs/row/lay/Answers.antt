@@ -3,7 +3,7 @@ use Rattle.gp_layout.proofs.Rows.{begin, has_view, next, all}
 use Rattle.gp_layout.proofs.row.lay.Goals as goal
 
 pub views-init : goal.views-init
-views-init g c = begin (g.V.ViewBytes.views c.args.views.now) _ c.new.ensures.items c.new-2.ensures.items
+views-init g c = begin (g.V.ViewBytes.views c.args.views.now) _ c.in_ok-with_capacity.ensures.items c.in_ok-with_capacity-2.ensures.items
 
 pub view-requires : goal.view-requires
 view-requires g c = has_view (g.V.ViewBytes.views c.args.views.now) c.args.count c.views.at c.requires (omega (arith, c.views-test.true))
