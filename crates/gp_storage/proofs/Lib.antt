@@ -1,0 +1,8 @@
+pub mod Tables
+pub mod Usages
+pub mod Named
+pub mod ReadersSoFar
+pub mod Fronts
+pub mod Numbers
+pub mod EachView
+mod Examples

@@ -1,0 +1,4 @@
+pub mod Readers
+pub mod Coding
+pub mod Streams
+pub mod Shared

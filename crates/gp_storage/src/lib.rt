@@ -1,0 +1,26 @@
+//! How the buffer views of an asset are stored: as streams of EXT_meshopt_compression where that takes fewer bytes.
+//!
+//! [`store_views`] gives the stream of each view, or none where it stays plain; `specs/Coding.antt` says which stream a view
+//! may be, and `specs/Streams.antt` which ones are kept. Only attributes are stored as streams yet: a view that may be an
+//! index sequence is told apart, and stays plain.
+//!
+//! - `usage`: what accessors are used for. - `images`: which views hold images. - `shared`, `readers`: what the readers of
+//!   each view have in common. - `choosing`: which stream a view may be. - `encoding`: the stream. - `storing`: all views.
+//! - `coding`, `stored`: what is answered.
+#![tactic(auto)]
+
+mod choosing;
+mod coding;
+mod encoding;
+mod images;
+mod readers;
+mod shared;
+mod stored;
+mod storing;
+#[cfg(test)]
+mod tests;
+mod usage;
+
+pub use coding::{Coding, Stream};
+pub use stored::StoredViews;
+pub use storing::store_views;
