@@ -1,3 +1,16 @@
+pub mod Moved
+pub mod Survivors
+pub mod MadeViews
+pub mod Plan
+pub mod References
+pub mod GroupEdits
+pub mod ViewEdits
+pub mod Placing
+pub mod Still
 pub mod Packed
+pub mod StoredParts
+pub mod StillLaws
+pub mod StoredLaws
 pub mod Same
 pub mod Laws
+pub mod Numbers

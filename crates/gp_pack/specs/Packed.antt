@@ -1,25 +1,67 @@
--- What packing makes of a document and its asset. No buffer view gets this far yet, so no byte of a buffer is referred to: the buffers go,
--- and so does the BIN chunk.
-use Rattle.std.specs.Prelude.{List, [], ◌∷◌, None, Result, Ok, Err, codes}
+-- What packing makes of a document and its asset: groups of triangle primitives moved, views stored as streams where that is shorter, and
+-- the tree edited to say so.
+use Rattle.std.specs.Prelude.{Bool, true, false, not, ◌&&◌, ◌==◌, List, [], ◌∷◌, map, length, Result, Ok, Err, codes}
+use Rattle.std.specs.List.{list_any}
 use Rattle.gp_json.specs.Plain.{PlainTree}
-use Rattle.gp_json.specs.TreeEdits.{without}
+use Rattle.gp_json.specs.TreeEdits.{at_member, and_items, with_items}
+use Rattle.gp_fields.specs.declared.geometry.Entry.{Entry}
 use Rattle.gp_asset.specs.declared.fault.Form.TheVariants.{Plain}
-use Rattle.gp_asset.specs.declared.storage.View.{View}
+use Rattle.gp_asset.specs.declared.geometry.Primitive.{Primitive}
+use Rattle.gp_asset.specs.Asset.{AssetParts}
 use Rattle.gp_document.specs.Document.{Document}
 use Rattle.gp_document.specs.Operation.{Made, Hindrance, unbuilt, Operation}
+use Rattle.gp_pack.specs.Moved.{Moved}
+use Rattle.gp_pack.specs.Survivors.{survives, where_numbered}
+use Rattle.gp_pack.specs.MadeViews.{made_views}
+use Rattle.gp_pack.specs.Plan.{output_views, count_streams, packed_bin}
+use Rattle.gp_pack.specs.References.{with_new_references}
+use Rattle.gp_pack.specs.GroupEdits.{with_moved_accessors, with_list_accessors, with_all_indices}
+use Rattle.gp_pack.specs.ViewEdits.{unplaced, with_stored}
 
--- the tree with the edits of packing
-unfoldable pub packed_tree : PlainTree → PlainTree
-packed_tree root = without (codes "buffers") root
+-- ---- the document
 
-unfoldable pub packed : Document → Document
-packed document = record { tree = packed_tree document.tree; bin = None; rest = document.rest }
+-- the views that stay, and those that are made, without places
+unfoldable pub with_made_views : List Moved → AssetParts → PlainTree → PlainTree
+with_made_views moved a root =
+    at_member (codes "bufferViews") (λ views. and_items (map unplaced (made_views a moved)) (with_items (where_numbered (survives moved a)) views)) root
 
--- buffer views aren't packed yet
-unfoldable pub packed_with : List View → Document → Result Made Hindrance
-packed_with [] document = Ok (record { document = packed document; views = 0; streams = 0 })
-packed_with (v ∷ views) document = Err unbuilt
+unfoldable pub packed_tree : List Moved → AssetParts → PlainTree → PlainTree
+packed_tree moved a root =
+    with_stored (output_views moved a)
+    (with_made_views moved a
+    (with_new_references moved a
+    (with_all_indices moved a
+    (with_list_accessors moved a
+    (with_moved_accessors moved a root)))))
+
+unfoldable pub packed : List Moved → Document → AssetParts → Document
+packed moved document a = record { tree = packed_tree moved a document.tree; bin = packed_bin (output_views moved a); rest = document.rest }
+
+-- ---- the operation
+
+-- with the number of its views, and how many of them are streams
+abbrev pub made_of : List Moved → Document → AssetParts → Made
+made_of moved document a = record {
+  document = packed moved document a;
+  views = length (output_views moved a);
+  streams = count_streams (output_views moved a);
+}
+
+-- groups of triangle primitives aren't moved yet: an asset with a primitive that could be of one is refused
+abbrev pub is_none_of : List Entry → Bool
+is_none_of [] = true
+is_none_of (e ∷ entries) = false
+
+abbrev pub may_move : Primitive → Bool
+may_move p = p.mode == 4 && not (is_none_of p.attributes)
+
+abbrev pub made_unless : Bool → Document → AssetParts → Result Made Hindrance
+made_unless true document a = Err unbuilt
+made_unless false document a = Ok (made_of [] document a)
+
+unfoldable pub packed_or : Document → AssetParts → Result Made Hindrance
+packed_or document a = made_unless (list_any may_move a.primitives) document a
 
 -- what is packed already isn't packed again
 abbrev pub packing : Operation
-packing = record { form = Plain; make = λ document a. packed_with a.views document }
+packing = record { form = Plain; make = packed_or }
