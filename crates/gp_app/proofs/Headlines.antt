@@ -57,7 +57,7 @@ no_line_fails before after (Some line) steady fails =
 -- the written bytes are the same asset
 same_made : (bytes : List ℕ) (made : Made) → Makes Pack bytes made → Same bytes made.out
 unfolding Makes
-same_made bytes made (packed, is, e) = subst (Same bytes) (sym (ap (λ (m : Made). m.out) e)) (packed_is_same bytes packed is)
+same_made bytes made (packed, small, is, e) = subst (Same bytes) (sym (ap (λ (m : Made). m.out) e)) (packed_is_same bytes packed small is)
 
 done_same : (before after : Moment) → (done : EndsDone Pack before after) → WritesSame done.bytes before after
 done_same before after done = record {
@@ -82,7 +82,7 @@ keeps_asset words before after status ends is done =
 
 kept_made : (bytes : List ℕ) (made : Made) → Makes Unpack bytes made → KeepsViews bytes made.out
 unfolding Makes
-kept_made bytes made (out, is, e) = subst (KeepsViews bytes) (sym (ap (λ (m : Made). m.out) e)) (unpacked_keeps_views bytes out is)
+kept_made bytes made (out, small, is, e) = subst (KeepsViews bytes) (sym (ap (λ (m : Made). m.out) e)) (unpacked_keeps_views bytes out is)
 
 pub keeps_contents : (words : List (List ℕ)) (before after : Moment) (status : Status) → Ends words before after status → KeepsContents words before after status
 keeps_contents words before after status ends is done =

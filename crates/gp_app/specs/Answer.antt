@@ -54,6 +54,6 @@ Answers asked before after (Err TooLarge) = (bytes : List ℕ) × ReadTooMany be
 Answers asked before after (Err (Faulty refusal)) = IsFaulty asked before after refusal
 Answers asked before after (Err NoMemory) = InputWaits before after
 
--- a refusal is the first fault of the input, or want of memory
-abbrev pub IsFaultOrMemory : Command → List ℕ → Refusal → Type 0
-IsFaultOrMemory asked bytes refusal = Refuses asked bytes refusal ⊎ (refusal ≡ Memory)
+-- a refusal of a command: the first fault of the input, or want of memory
+abbrev pub IsRefusalOf : Command → List ℕ → Refusal → Type 0
+IsRefusalOf asked bytes refusal = Refuses asked bytes refusal ⊎ (refusal ≡ Memory)

@@ -7,6 +7,7 @@ use Rattle.gp_document.specs.Faults.{HasFault}
 use Rattle.gp_document.specs.Answers.{IsMade}
 use Rattle.gp_document.specs.declared.output.Output.{Output}
 use Rattle.gp_pack.specs.Packed.{packing}
+use Rattle.gp_pack.specs.StoredParts.{AreBytes}
 use Rattle.gp_unpack.specs.Unpacked.{unpacking}
 use Rattle.gp_asset.specs.declared.refusal.Refusal.{Refusal}
 use Rattle.gp_app.specs.Lines.{packed_line, unpacked_line}
@@ -45,5 +46,6 @@ pub record Made : Type 0 where
 abbrev pub made_of : Command → Output → ℕ → Made
 made_of asked out taken = record { out = out.glb; line = Some (line_of asked out taken) }
 
+-- of an input, which is bytes
 unfoldable pub Makes : Command → List ℕ → Made → Type 0
-Makes asked bytes made = (out : Output) × IsMade (operation_of asked) bytes out × (made ≡ made_of asked out (length bytes))
+Makes asked bytes made = (out : Output) × AreBytes bytes × IsMade (operation_of asked) bytes out × (made ≡ made_of asked out (length bytes))

@@ -1,12 +1,12 @@
 // From the source to what is to be written.
 ghost use Rattle.std.specs.Prelude.{◌≡◌, ◌≤◌, ◌+◌, ◌^◌, length, Some, IfOk, IfErr};
 ghost use Rattle.gp_app.specs.Work.{Refuses, Makes};
-ghost use Rattle.gp_app.specs.Answer.{Answers, told_line, made_by, IsFaultOrMemory};
+ghost use Rattle.gp_app.specs.Answer.{Answers, told_line, made_by, IsRefusalOf};
 ghost use Rattle.gp_app.specs.Lines.{done_line};
 ghost use Rattle.gp_app.specs.Taken.{TakesInput};
 
 use crate::commands::Command;
-use crate::lines::done_line;
+use crate::lines::{PACKED, UNPACKED, done_line};
 use arrayvec::ArrayVec;
 use gp_asset::Refusal;
 use gp_document::Output;
@@ -76,16 +76,16 @@ fn take_input<S: Source>(alloc: Global, asked: Command, input: &mut S) -> Result
 #[tactic(auto, unfolding(crate::specs::Work::Makes, crate::specs::Work::Refuses))]
 fn work(alloc: Global, asked: Command, bytes: &[u8]) -> Result<Answer, Refusal>
     ensures makes { IfOk result (λ answer. Makes asked bytes.now (made_by answer)) }
-    ensures refused { IfErr result (IsFaultOrMemory asked bytes.now) }
+    ensures refused { IfErr result (IsRefusalOf asked bytes.now) }
 {
     match asked {
         Command::Pack => {
             let out = pack(alloc, bytes)?;
-            Ok(answer_with(b"packed views ", out, bytes.len()))
+            Ok(answer_with(PACKED, out, bytes.len()))
         }
         Command::Unpack => {
             let out = unpack(alloc, bytes)?;
-            Ok(answer_with(b"unpacked views ", out, bytes.len()))
+            Ok(answer_with(UNPACKED, out, bytes.len()))
         }
     }
 }

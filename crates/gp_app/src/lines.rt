@@ -12,6 +12,24 @@ use gp_groups::StreamFault;
 use gp_json::JsonFault;
 use itoa::Buffer;
 
+// The lines of a run that stopped, but for those of faults of what the input holds.
+pub(crate) const TOO_LARGE: &[u8] = b"refused 1 TooLarge\n";
+
+pub(crate) const USAGE: &[u8] = b"usage: glbpack pack / unpack / analyse / sample N\n";
+
+pub(crate) const INPUT_FAILED: &[u8] = b"input failed\n";
+
+pub(crate) const OUTPUT_FAILED: &[u8] = b"output failed\n";
+
+pub(crate) const REPORT_FAILED: &[u8] = b"report failed\n";
+
+pub(crate) const WANT_OF_MEMORY: &[u8] = b"want of memory\n";
+
+// The first words of the line of Done.
+pub(crate) const PACKED: &[u8] = b"packed views ";
+
+pub(crate) const UNPACKED: &[u8] = b"unpacked views ";
+
 /// Appends a text that has room.
 fn put(line: &mut ArrayVec<u8, 96>, text: &[u8])
     requires { array_vec_len line.old + length text.now ≤ 96 }

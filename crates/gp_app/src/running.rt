@@ -8,7 +8,7 @@ use crate::Status;
 use crate::answer::{Stop, answer_to};
 use crate::commands::Command;
 use crate::deliver::deliver;
-use crate::lines::refusal_line;
+use crate::lines::{INPUT_FAILED, TOO_LARGE, USAGE, WANT_OF_MEMORY, refusal_line};
 use crate::say::say;
 use crate::words::command;
 use gp_host::{Sink, Source};
@@ -68,10 +68,7 @@ fn do_words<S: Source, K: Sink, R: Sink>(
     match command(words) {
         Some(asked) => carry_out(alloc, asked, input, output, report),
         None => {
-            say(
-                report,
-                b"usage: glbpack pack / unpack / analyse / sample N\n",
-            );
+            say(report, USAGE);
             Status::Usage
         }
     }
@@ -96,11 +93,11 @@ fn carry_out<S: Source, K: Sink, R: Sink>(
     match answer_to(alloc, asked, input) {
         Ok(answer) => deliver(&answer, output, report),
         Err(Stop::InputFailed) => {
-            say(report, b"input failed\n");
+            say(report, INPUT_FAILED);
             Status::Outside
         }
         Err(Stop::TooLarge) => {
-            say(report, b"refused 1 TooLarge\n");
+            say(report, TOO_LARGE);
             Status::Refused
         }
         Err(Stop::Faulty(refusal)) => {
@@ -108,7 +105,7 @@ fn carry_out<S: Source, K: Sink, R: Sink>(
             Status::Refused
         }
         Err(Stop::NoMemory) => {
-            say(report, b"want of memory\n");
+            say(report, WANT_OF_MEMORY);
             Status::Memory
         }
     }
