@@ -11,6 +11,8 @@ mod files;
 #[cfg(test)]
 mod lines;
 #[cfg(test)]
+mod packed;
+#[cfg(test)]
 mod pairs;
 #[cfg(test)]
 mod readings;
