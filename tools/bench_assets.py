@@ -6,14 +6,16 @@
 COUNT is the number of items of each array (100,000), RUNS the number of runs of which the best is told (5). Each text
 is packed with COUNT and with twice as many items. `whole` has that many buffer views, accessors and primitives over one
 buffer in a data URI, `accessors` accessors without views and primitives, `buffers` buffers in data URIs with one view
-each. Texts with views are read and checked whole, and refused as `not yet`.
+each. The first two have primitives of triangles, so they are read and checked whole, and refused as `not yet`; the third
+is packed.
 """
 import base64
 import os
 import subprocess
 import sys
 import tempfile
-import time
+
+from measuring import best
 
 TOP = os.path.dirname(os.path.dirname(os.path.abspath(__file__)))
 PROGRAM = os.path.join(TOP, "crates", "glbpack", "out", "glbpack")
@@ -47,21 +49,6 @@ def buffers(count):
     return '{"buffers":[%s],"bufferViews":[%s]}' % (items, views)
 
 
-def best(path, runs):
-    """The least time, the most memory and the report of some runs."""
-    times, memory, told = [], 0, ""
-    for _ in range(runs):
-        with open(path, "rb") as text, open(os.devnull, "wb") as out:
-            begun = time.monotonic()
-            process = subprocess.Popen([PROGRAM, "pack"], stdin=text, stdout=out, stderr=subprocess.PIPE)
-            told = process.stderr.read().decode().strip()
-            _, status, used = os.wait4(process.pid, 0)
-            times.append(time.monotonic() - begun)
-            process.returncode = os.waitstatus_to_exitcode(status)
-            memory = max(memory, used.ru_maxrss)
-    return min(times), memory / 1024, told
-
-
 def main():
     count = int(sys.argv[1]) if len(sys.argv) > 1 else 100000
     runs = int(sys.argv[2]) if len(sys.argv) > 2 else 5
@@ -73,8 +60,8 @@ def main():
                 text = made(items)
                 with open(path, "w", encoding="ascii") as out:
                     out.write(text)
-                seconds, memory, told = best(path, runs)
-                print("%s, %d items, %.1f MB: %.2f s, %.0f MiB, %s" % (name, items, len(text) / 1e6, seconds, memory, told))
+                run = best([PROGRAM, "pack"], path, runs)
+                print("%s, %d items, %.1f MB: %.2f s, %.0f MiB, %s" % (name, items, len(text) / 1e6, run.seconds, run.memory, run.told))
 
 
 if __name__ == "__main__":

@@ -14,29 +14,20 @@ import pathlib
 import subprocess
 import sys
 import tempfile
-import time
+
+from measuring import best
 
 SHAPES = ["objects", "string", "digits", "keys"]
 TURNS = 5
 TOOLS = pathlib.Path(__file__).resolve().parent
 
 
-def once(words, text):
-    """Seconds on the clock, seconds of the processor in user mode, and the most memory in MB."""
-    with open(text, "rb") as source, tempfile.TemporaryFile() as sink:
-        start = time.monotonic()
-        child = subprocess.Popen(words, stdin=source, stdout=sink, stderr=subprocess.DEVNULL)
-        _, status, usage = os.wait4(child.pid, 0)
-        clock = time.monotonic() - start
-        child.returncode = os.waitstatus_to_exitcode(status)
-    if child.returncode != 0:
-        sys.exit(f"{words} ended with {child.returncode} on {text}")
-    return clock, usage.ru_utime, usage.ru_maxrss / 1024
-
-
-def best(words, text):
-    """The least of each measure over the turns."""
-    return [min(measure) for measure in zip(*(once(words, text) for _ in range(TURNS)))]
+def measured(words, text):
+    """Seconds on the clock, seconds of the processor in user mode, and the most memory."""
+    run = best(words, text, TURNS)
+    if run.status != 0:
+        sys.exit(f"{words} ended with {run.status} on {text}")
+    return run.seconds, run.user, run.memory
 
 
 def main():
@@ -52,9 +43,9 @@ def main():
                 text = os.path.join(folder, f"{shape}.{part}")
                 with open(text, "wb") as sink:
                     subprocess.run([sys.executable, TOOLS / "make_texts.py", shape, str(part)], stdout=sink, check=True)
-                rows.append(best(program, text))
+                rows.append(measured(program, text))
             (half, _, half_memory), (whole, user, memory) = rows
-            copied = best(["cat"], text)[0]
+            copied = measured(["cat"], text)[0]
             print(
                 f"| {shape} | {whole:.2f} | {size / 1e6 / whole:.0f} | {user:.2f} | {memory:.0f} "
                 f"| {whole / half:.2f} | {memory / half_memory:.2f} | {copied:.2f} |",

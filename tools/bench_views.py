@@ -1,12 +1,19 @@
 #!/usr/bin/env python3
-"""Unpacks GLBs with one large buffer view, and tells the time and the memory of each.
+"""Packs and unpacks GLBs with one large buffer view, and tells the time and the memory of each.
 
     python3 tools/bench_views.py [MIB] [RUNS]
 
 MIB is the length of the view in units of 2^20 bytes (64), RUNS the number of runs of which the best is told (5). The
-view holds elements of 16 bytes: `smooth`, where each 16-bit number goes at most 12 up or down from element to element,
-and `random` bytes. Each is unpacked from its stream, and from plain bytes; a copy of the plain bytes by `cat` stands
-beside them. The streams are made by `gp_coders` (build it by `rt run` in its folder).
+view is read by one accessor of four floats an element, with a `byteStride` of 16, and no primitive uses it: so it may be
+stored as a stream of attributes, and nothing of it moves. Its bytes are
+
+    smooth   each 16-bit number of an element goes at most 12 up or down to the next element, so the stream is shorter
+    random   random bytes, whose stream is longer than the view, so that `pack` encodes it and keeps it plain
+
+Each is packed and unpacked from plain bytes, and unpacked from its stream, which is made by `gp_coders` (build it by
+`rt run` in its folder). A copy of the same file by `cat` stands beside each. A line tells the length of the file, the
+least time, the most memory and the report of the program, which has the length of the output. The program is the one that
+was built last (`./glbpack` builds it).
 """
 import os
 import random
@@ -14,7 +21,8 @@ import struct
 import subprocess
 import sys
 import tempfile
-import time
+
+from measuring import best
 
 TOP = os.path.dirname(os.path.dirname(os.path.abspath(__file__)))
 PROGRAM = os.path.join(TOP, "crates", "glbpack", "out", "glbpack")
@@ -46,49 +54,43 @@ def glb(json, bin_chunk):
         "<II", len(bin_chunk), 0x004E4942) + bin_chunk
 
 
+# The file of a view of so many bytes, with its buffers, the other members of the view and the BIN chunk.
+def file_of(length, buffers, view, bin_chunk):
+    accessor = '{"bufferView":0,"componentType":5126,"count":%d,"type":"VEC4"}' % (length // STRIDE)
+    return glb('{"asset":{"version":"2.0"},"buffers":[%s],"bufferViews":[{%s,"byteLength":%d,"byteStride":%d}],"accessors":[%s]}' % (
+        buffers, view, length, STRIDE, accessor), bin_chunk)
+
+
 def plain(data):
-    return glb('{"asset":{"version":"2.0"},"buffers":[{"byteLength":%d}],"bufferViews":[{"buffer":0,"byteLength":%d,"byteStride":%d}]}' % (
-        len(data), len(data), STRIDE), data)
+    return file_of(len(data), '{"byteLength":%d}' % len(data), '"buffer":0', data)
 
 
 def packed(data):
     count = len(data) // STRIDE
     stream = subprocess.run([CODERS, "attributes", "encode", str(count), str(STRIDE)], input=data, capture_output=True, check=True).stdout
+    buffers = '{"byteLength":%d},{"byteLength":%d,"extensions":{"EXT_meshopt_compression":{"fallback":true}}}' % (len(stream), len(data))
     extension = '{"buffer":0,"byteLength":%d,"byteStride":%d,"count":%d,"mode":"ATTRIBUTES"}' % (len(stream), STRIDE, count)
-    return glb('{"asset":{"version":"2.0"},"buffers":[{"byteLength":%d},{"byteLength":%d}],"bufferViews":[{"buffer":1,"byteLength":%d,"extensions":{"EXT_meshopt_compression":%s}}]}' % (
-        len(stream), len(data), len(data), extension), stream)
-
-
-def best(command, path, runs):
-    """The least time, the most memory and the report of some runs."""
-    times, memory, told = [], 0, ""
-    for _ in range(runs):
-        with open(path, "rb") as file, tempfile.TemporaryFile() as out:
-            begun = time.monotonic()
-            process = subprocess.Popen(command, stdin=file, stdout=out, stderr=subprocess.PIPE)
-            told = process.stderr.read().decode().strip()
-            _, status, used = os.wait4(process.pid, 0)
-            times.append(time.monotonic() - begun)
-            process.returncode = os.waitstatus_to_exitcode(status)
-            memory = max(memory, used.ru_maxrss)
-    return min(times), memory / 1024, told
+    return file_of(len(data), buffers, '"buffer":1,"extensions":{"EXT_meshopt_compression":%s}' % extension, stream)
 
 
 def main():
+    if len(sys.argv) > 3 or not all(word.isdigit() for word in sys.argv[1:]):
+        sys.exit(__doc__)
     length = int(sys.argv[1]) if len(sys.argv) > 1 else 64
     runs = int(sys.argv[2]) if len(sys.argv) > 2 else 5
     count = length * (1 << 20) // STRIDE
-    commands = [("unpack", [PROGRAM, "unpack"]), ("copy", ["cat"])]
+    commands = {"pack": [PROGRAM, "pack"], "unpack": [PROGRAM, "unpack"], "copy": ["cat"]}
+    forms = (("plain", plain, ("pack", "unpack", "copy")), ("stream", packed, ("unpack", "copy")))
     for name, make in (("smooth", smooth), ("random", randomly)):
-        for form, whole in (("stream", packed), ("plain", plain)):
+        for form, whole, asked in forms:
             with tempfile.NamedTemporaryFile() as kept:
                 # Nothing large is held here while the runs are measured, since a child begins with the parent's memory.
                 kept.write(whole(make(count)))
                 kept.flush()
                 size = os.path.getsize(kept.name)
-                for command, words in commands:
-                    seconds, memory, told = best(words, kept.name, runs)
-                    print("%s %s %s: %.1f MB in, %.2f s, %.0f MiB; %s" % (name, form, command, size / 1e6, seconds, memory, told))
+                for command in asked:
+                    run = best(commands[command], kept.name, runs)
+                    print("%s %s %s: %.1f MB in, %.2f s, %.0f MiB; %s" % (name, form, command, size / 1e6, run.seconds, run.memory, run.told))
 
 
 if __name__ == "__main__":

@@ -19,7 +19,7 @@ compare() {
     local seed=$1 kind=$2
     shift 2
     python3 "$oracle/gen.py" "$count" "$seed" "$cases/$seed" "$@" >/dev/null
-    python3 "$oracle/compare.py" "$cases/$seed" --level R5 --program "$top/crates/glbpack/out/glbpack" >"$cases/told" || true
+    python3 "$oracle/compare.py" "$cases/$seed" --level R6 --program "$top/crates/glbpack/out/glbpack" >"$cases/told" || true
     local told
     told=$(tail -n 1 "$cases/told")
     echo "seed $seed, $kind: $told"

@@ -2,6 +2,7 @@
 """Writes the models of examples/ from their parts: python3 tools/make_examples.py"""
 
 import json
+import math
 import pathlib
 import struct
 
@@ -26,6 +27,47 @@ SCENE = {
         {"name": "bark", "pbrMetallicRoughness": {"baseColorFactor": [0.35, 0.2, 0.1, 1], "metallicFactor": 0}},
     ],
 }
+
+# A spiral of points with colors, which turns: four buffer views, of which packing makes streams where they are shorter.
+POINTS = 240
+TIMES = 16
+
+
+def spiral() -> tuple[dict, bytes]:
+    # Multiples of 2^-10, so that the least and the greatest are spelled exactly.
+    points = [
+        (round(math.cos(i / 12) * i * 16) / 1024, i / 64, round(math.sin(i / 12) * i * 16) / 1024) for i in range(POINTS)
+    ]
+    positions = b"".join(struct.pack("<3f", *point) for point in points)
+    least, greatest = [min(part) for part in zip(*points)], [max(part) for part in zip(*points)]
+    colors = b"".join(struct.pack("<4B", i, 255 - i, 128, 255) for i in range(POINTS))
+    times = struct.pack(f"<{TIMES}f", *(i / 4 for i in range(TIMES)))
+    turns = b"".join(struct.pack("<4f", 0, round(math.sin(i / 10), 4), 0, round(math.cos(i / 10), 4)) for i in range(TIMES))
+    views, offset = [], 0
+    for part in (positions, colors, times, turns):
+        views.append({"buffer": 0, "byteOffset": offset, "byteLength": len(part)})
+        offset += len(part)
+    asset = {
+        "asset": {"version": "2.0", "generator": "glbpack examples"},
+        "scene": 0,
+        "scenes": [{"nodes": [0]}],
+        "nodes": [{"name": "spiral", "mesh": 0}],
+        "meshes": [{"primitives": [{"mode": 0, "attributes": {"POSITION": 0, "COLOR_0": 1}}]}],
+        "animations": [{
+            "channels": [{"sampler": 0, "target": {"node": 0, "path": "rotation"}}],
+            "samplers": [{"input": 2, "output": 3}],
+        }],
+        "accessors": [
+            {"bufferView": 0, "componentType": 5126, "count": POINTS, "type": "VEC3", "min": least, "max": greatest},
+            {"bufferView": 1, "componentType": 5121, "normalized": True, "count": POINTS, "type": "VEC4"},
+            {"bufferView": 2, "componentType": 5126, "count": TIMES, "type": "SCALAR", "min": [0], "max": [(TIMES - 1) / 4]},
+            {"bufferView": 3, "componentType": 5126, "count": TIMES, "type": "VEC4"},
+        ],
+        "bufferViews": views,
+        "buffers": [{"byteLength": offset}],
+    }
+    return asset, positions + colors + times + turns
+
 
 # A triangle whose accessors have no buffer view: its elements are zeros. No view needs the buffer's bytes.
 ZEROS = {
@@ -69,6 +111,8 @@ def main() -> None:
     (EXAMPLES / "scene.glb").write_bytes(glb(pretty))
     (EXAMPLES / "scene.gltf").write_text(pretty + "\n")
     (EXAMPLES / "notes.glb").write_bytes(glb(pretty, chunk(b"BIN\0", bytes(range(16))), notes))
+    asset, content = spiral()
+    (EXAMPLES / "points.glb").write_bytes(glb(json.dumps(asset), chunk(b"BIN\0", content)))
     (EXAMPLES / "spellings.gltf").write_text(SPELLINGS)
     (EXAMPLES / "zeros.gltf").write_text(json.dumps(ZEROS, indent=2) + "\n")
 

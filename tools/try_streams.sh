@@ -1,0 +1,77 @@
+#!/usr/bin/env bash
+# Runs the program with standard streams that fail, one at a time, and without words:
+#   tools/try_streams.sh PROGRAM
+# Each run must end with the exit status that the table in README.md has for it, and leave on the other streams what
+# stands there. Any difference is told, and fails.
+set -euo pipefail
+top=$(cd "$(dirname "$0")/.." && pwd)
+program=$(realpath "$1")
+file=$top/examples/points.glb
+if [ ! -x "$program" ]; then
+    echo "there is no program $1"
+    exit 1
+fi
+
+work=$(mktemp -d)
+trap 'rm -rf "$work"' EXIT
+output=$work/output
+report=$work/report
+exec 3>&1 # where differences are told: the streams of a run are its own
+failed=0
+runs=0
+
+differs() {
+    echo "$name: $1" >&3
+    failed=1
+}
+
+# ends NAME STATUS WORD..: runs the program on the streams of this call
+ends() {
+    name=$1
+    local wanted=$2 status=0
+    shift 2
+    "$program" "$@" 3>&- || status=$?
+    [ "$status" -eq "$wanted" ] || differs "exit status $status in place of $wanted"
+    runs=$((runs + 1))
+}
+
+# tells LINE: what the run before has left on its report
+tells() {
+    printf '%s\n' "$1" | cmp -s - "$report" || differs "the report is '$(cat "$report")' in place of '$1'"
+}
+
+# writes FILE: what the run before has left on its output
+writes() {
+    cmp -s "$1" "$output" || differs "the output has $(wc -c <"$output") bytes, and isn't the wanted one of $(wc -c <"$1")"
+}
+
+ends "nothing fails" 0 pack <"$file" >"$output" 2>"$report"
+cp "$output" "$work/packed"
+grep -Eqx "packed views [0-9]+ of [0-9]+ in $(wc -c <"$file") out $(wc -c <"$output")" "$report" ||
+    differs "the report is '$(cat "$report")'"
+
+ends "output full" 3 pack <"$file" >/dev/full 2>"$report"
+tells "output failed"
+ends "output full, unpacking" 3 unpack <"$file" >/dev/full 2>"$report"
+tells "output failed"
+ends "output closed" 3 pack <"$file" >&- 2>"$report"
+tells "output failed"
+
+ends "input closed" 3 pack <&- >"$output" 2>"$report"
+tells "input failed"
+writes /dev/null
+ends "input a directory" 3 pack <"$top" >"$output" 2>"$report"
+tells "input failed"
+writes /dev/null
+
+ends "report full" 3 pack <"$file" >"$output" 2>/dev/full
+writes "$work/packed"
+ends "report closed" 3 pack <"$file" >"$output" 2>&-
+writes "$work/packed"
+
+ends "no words" 2 <"$file" >"$output" 2>"$report"
+tells "usage: glbpack pack / unpack / analyse / sample N"
+writes /dev/null
+
+[ "$failed" -eq 0 ] || exit 1
+echo "$runs runs with standard streams that fail or none: each ended as it must"
