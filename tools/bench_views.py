@@ -84,9 +84,13 @@ def main():
     for name, make in (("smooth", smooth), ("random", randomly)):
         for form, whole, asked in forms:
             with tempfile.NamedTemporaryFile() as kept:
-                # Nothing large is held here while the runs are measured, since a child begins with the parent's memory.
-                kept.write(whole(make(count)))
-                kept.flush()
+                # Made in a process of its own, since a child that is measured begins with the memory of its parent.
+                making = os.fork()
+                if making == 0:
+                    kept.write(whole(make(count)))
+                    kept.flush()
+                    os._exit(0)
+                os.waitpid(making, 0)
                 size = os.path.getsize(kept.name)
                 for command in asked:
                     run = best(commands[command], kept.name, runs)
