@@ -18,7 +18,7 @@ mod status;
 mod words;
 
 pub use commands::Command;
-pub use lines::refusal_line;
+pub use lines::{WANT_OF_MEMORY, refusal_line};
 pub use running::run;
 pub use status::Status;
 pub use words::command;

@@ -5,22 +5,23 @@ use Rattle.std.proofs.lemmas.Bool.{lt-ltb}
 use Rattle.std.proofs.lemmas.Bool.Decides.{nat_tests}
 use Rattle.std.proofs.lemmas.List.FromFn.{length-map-range_with_len, get_or-map-range_with_len}
 use Rattle.std.proofs.lemmas.List.Folds.{list_all-map}
-use Rattle.gp_json.specs.declared.tree.Tree.{Tree, Members as an_object}
-use Rattle.gp_json.specs.declared.tree.Members.{Members}
-use Rattle.gp_json.specs.declared.tree.Member.{Member}
-use Rattle.gp_json.specs.Plain.{plain, plain_member, plain_members, plain_entries}
-use Rattle.gp_json.specs.Find.{object_members, member_list}
-use Rattle.gp_json.proofs.Firsts.{list_of, object_is}
+use Rattle.gp_tree.specs.declared.tree.Tree.{Tree, Members as an_object}
+use Rattle.gp_tree.specs.declared.tree.Members.{Members}
+use Rattle.gp_tree.specs.declared.tree.Member.{Member}
+use Rattle.gp_tree.specs.Plain.{plain, plain_member, plain_members, plain_entries}
+use Rattle.gp_tree.specs.Find.{object_members, member_list}
+use Rattle.gp_tree.proofs.Firsts.{list_of, object_is}
 use Rattle.gp_glb.specs.Uri.{code_of, uri_bytes}
 use Rattle.gp_fields.specs.Fields.{BufferFields, ViewFields, key_of}
-use Rattle.gp_asset.specs.declared.fault.AssetFault.TheVariants.{Buffer}
-use Rattle.gp_asset.specs.declared.fault.AssetRefusal.{AssetRefusal}
-use Rattle.gp_asset.specs.declared.fault.AssetRefusal.TheVariants.{Fault, Memory}
+use Rattle.gp_rules.specs.declared.fault.AssetFault.TheVariants.{Buffer}
+use Rattle.gp_rules.specs.declared.fault.AssetRefusal.{AssetRefusal}
+use Rattle.gp_rules.specs.declared.fault.AssetRefusal.TheVariants.{Fault, Memory}
 use Rattle.gp_asset.specs.declared.buffers.BufferBytes.{BufferBytes}
-use Rattle.gp_asset.specs.Checks.{Checked, ◌>>=◌, unless, each, Answers}
+use Rattle.gp_fields.specs.Record.{◌>>=◌}
+use Rattle.gp_rules.specs.Checks.{Checked, unless, each, Answers}
 use Rattle.gp_asset.specs.Buffers.{is_marker, is_needed, bytes_of_uri, stored_bytes, buffer_bytes, bytes_if, buffer_of}
 use Rattle.gp_asset.specs.Stored.{bytes_in, shown, present}
-use Rattle.gp_asset.proofs.Each.{behind, next, stop}
+use Rattle.gp_rules.proofs.Each.{behind, next, stop}
 
 -- ---- the text of a data URI
 

@@ -1,10 +1,7 @@
-pub mod Each
-pub mod Filters
 pub mod Gathered
 pub mod Held
 pub mod Marks
 pub mod Names
 pub mod Numbered
 pub mod Steps
-pub mod Within
 mod Worked

@@ -1,9 +1,10 @@
 -- A chain of calls that each answer a part of what is wanted.
 use Rattle.std.proofs.Common.{◌≡◌, Bool, true, false, Result, Ok, Err, sym, ap, subst}
-use Rattle.gp_asset.specs.declared.fault.AssetFault.{AssetFault}
-use Rattle.gp_asset.specs.declared.fault.AssetRefusal.{AssetRefusal}
-use Rattle.gp_asset.specs.declared.fault.AssetRefusal.TheVariants.{Fault, Memory}
-use Rattle.gp_asset.specs.Checks.{Checked, Answers, ◌>>=◌, unless}
+use Rattle.gp_rules.specs.declared.fault.AssetFault.{AssetFault}
+use Rattle.gp_rules.specs.declared.fault.AssetRefusal.{AssetRefusal}
+use Rattle.gp_rules.specs.declared.fault.AssetRefusal.TheVariants.{Fault, Memory}
+use Rattle.gp_fields.specs.Record.{◌>>=◌}
+use Rattle.gp_rules.specs.Checks.{Checked, Answers, unless}
 
 -- a part was found
 pub found : {A B R : Type 0} {wanted : Checked A} {a : A} (f : A → Checked B) (g : R → B) (result : Result R AssetRefusal) → wanted ≡ Ok a → Answers (f a) g result → Answers (wanted >>= f) g result

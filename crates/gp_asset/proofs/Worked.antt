@@ -3,26 +3,25 @@ use Prim.Native.String.{String}
 use Rattle.std.specs.Prelude.{◌≡◌, ℕ, Bool, true, false, List, [], ◌∷◌, Option, Some, None, Ok, Err, codes}
 use Rattle.std.proofs.Common.{refl}
 use Rattle.std.specs.Str.{chars}
-use Rattle.gp_json.specs.Plain.{PlainTree, null, number, text, list, members, trees_of, members_of}
-use Rattle.gp_json.specs.Find.{PlainMember}
+use Rattle.gp_tree.specs.Plain.{PlainTree, null, number, text, list, members, trees_of, members_of}
+use Rattle.gp_tree.specs.Find.{PlainMember}
 use Rattle.gp_glb.specs.Uri.{code_of, strip_prefix}
 use Rattle.gp_fields.specs.declared.geometry.Entry.{Entry}
 use Rattle.gp_fields.specs.declared.geometry.PrimitiveFields.{PrimitiveFields}
 use Rattle.gp_fields.specs.Record.{asset_fields}
-use Rattle.gp_asset.specs.declared.fault.Form.TheVariants.{Plain, Any}
-use Rattle.gp_asset.specs.declared.fault.AssetFault.{AssetFault}
-use Rattle.gp_asset.specs.declared.fault.AssetFault.TheVariants.{AlreadyPacked, Foreign, Buffer, Scheme, View as BadView, Accessor as BadAccessor, TooMuchData}
-use Rattle.gp_asset.specs.declared.accessing.Accessor.{Accessor}
-use Rattle.gp_asset.specs.declared.accessing.Component.TheVariants.{U8, I16, U16, F32}
-use Rattle.gp_asset.specs.declared.accessing.Shape.TheVariants.{Scalar, Vec3, Mat2, Mat3, Mat4}
+use Rattle.gp_asset.specs.declared.purpose.Form.TheVariants.{Plain, Any}
+use Rattle.gp_rules.specs.declared.fault.AssetFault.{AssetFault}
+use Rattle.gp_rules.specs.declared.fault.AssetFault.TheVariants.{AlreadyPacked, Foreign, Buffer, Scheme, View as BadView, Accessor as BadAccessor, TooMuchData}
+use Rattle.gp_rules.specs.declared.accessing.Accessor.{Accessor}
+use Rattle.gp_rules.specs.declared.accessing.Component.TheVariants.{U8, F32}
+use Rattle.gp_rules.specs.declared.accessing.Shape.TheVariants.{Scalar}
 use Rattle.gp_asset.specs.declared.usage.Role.TheVariants.{Attribute, Target, Indices, InverseBind, SamplerInput, SamplerOutput}
-use Rattle.gp_asset.specs.Checks.{Checked}
-use Rattle.gp_asset.specs.Kinds.{component_of, shape_of}
-use Rattle.gp_asset.specs.Sizes.{element_size}
+use Rattle.gp_rules.specs.Checks.{Checked}
+use Rattle.gp_rules.specs.Kinds.{component_of, shape_of}
 use Rattle.gp_asset.specs.Extensions.{extensions_in_use, supported}
 use Rattle.gp_asset.specs.Buffers.{is_needed, buffer_bytes, buffer_of}
-use Rattle.gp_asset.specs.Views.{is_bad_view, view_of}
-use Rattle.gp_asset.specs.Accessors.{known_accessor, is_bad_accessor, accessor_of, load}
+use Rattle.gp_rules.specs.Views.{is_bad_view, view_of}
+use Rattle.gp_rules.specs.Accessors.{known_accessor, is_bad_accessor, accessor_of, load}
 use Rattle.gp_asset.specs.Primitives.{primitives_of}
 use Rattle.gp_asset.specs.Uses.{use_as, uses_of_all, references, of_accessor, of_sparse_indices, of_sparse_values, of_image}
 use Rattle.gp_asset.specs.Asset.{AssetParts, by_rules, asset}
@@ -136,9 +135,6 @@ most_floats = refl
 too_many_floats : fault_in (asset Any (floats "536870913") None) ≡ Some TooMuchData
 unfolding chars asset asset_fields extensions_in_use supported by_rules component_of shape_of known_accessor is_bad_accessor accessor_of load
 too_many_floats = refl
-
-sizes : (element_size U8 Mat2 ≡ 8) × (element_size U8 Mat3 ≡ 12) × (element_size I16 Mat3 ≡ 24) × (element_size F32 Mat4 ≡ 64) × (element_size U16 Vec3 ≡ 6)
-sizes = (refl, refl, refl, refl, refl)
 
 -- ---- uses and references
 

@@ -1,20 +1,20 @@
 -- The asset that a JSON value and a BIN chunk stand for, or its first fault.
 use Rattle.std.specs.Prelude.{ℕ, Bool, List, Option, Result, Ok, Err}
-use Rattle.gp_json.specs.Plain.{PlainTree}
+use Rattle.gp_tree.specs.Plain.{PlainTree}
 use Rattle.gp_fields.specs.declared.fault.FieldFault.{FieldFault}
 use Rattle.gp_fields.specs.Fields.{BufferFields, ViewFields, AccessorFields}
-use Rattle.gp_fields.specs.Record.{AssetFields, asset_fields}
-use Rattle.gp_asset.specs.declared.fault.Form.{Form}
-use Rattle.gp_asset.specs.declared.fault.AssetFault.TheVariants.{Field, TooMuchData}
-use Rattle.gp_asset.specs.declared.storage.View.{View}
-use Rattle.gp_asset.specs.declared.accessing.Accessor.{Accessor}
+use Rattle.gp_fields.specs.Record.{◌>>=◌, AssetFields, asset_fields}
+use Rattle.gp_asset.specs.declared.purpose.Form.{Form}
+use Rattle.gp_rules.specs.declared.fault.AssetFault.TheVariants.{Field, TooMuchData}
+use Rattle.gp_rules.specs.declared.storage.View.{View}
+use Rattle.gp_rules.specs.declared.accessing.Accessor.{Accessor}
 use Rattle.gp_asset.specs.declared.geometry.Primitive.{Primitive}
 use Rattle.gp_asset.specs.declared.usage.AccessorUse.{AccessorUse}
-use Rattle.gp_asset.specs.Checks.{Checked, ◌>>=◌, unless, each}
+use Rattle.gp_rules.specs.Checks.{Checked, unless, each}
 use Rattle.gp_asset.specs.Extensions.{extensions_in_use, supported, are_closed}
 use Rattle.gp_asset.specs.Buffers.{buffer_of}
-use Rattle.gp_asset.specs.Views.{view_of}
-use Rattle.gp_asset.specs.Accessors.{accessor_of, is_too_much}
+use Rattle.gp_rules.specs.Views.{view_of}
+use Rattle.gp_rules.specs.Accessors.{accessor_of, is_too_much}
 use Rattle.gp_asset.specs.Primitives.{primitives_of}
 use Rattle.gp_asset.specs.Uses.{uses_of_all}
 

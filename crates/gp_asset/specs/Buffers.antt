@@ -1,13 +1,14 @@
 -- The bytes of buffers (glTF 2.0, sections 3.6.1 and 5.10), and what is wrong with them.
 use Rattle.std.specs.Prelude.{ℕ, Bool, true, false, not, ◌==◌, nat_lt, if◌then◌else◌, List, length, Option, Some, None, Ok, Err, codes}
 use Rattle.std.specs.List.{list_any, list_all}
-use Rattle.gp_json.specs.Key.{units}
-use Rattle.gp_json.specs.Values.{ascii_of}
-use Rattle.gp_json.specs.Find.{is_named}
+use Rattle.gp_tree.specs.Key.{units}
+use Rattle.gp_tree.specs.Values.{ascii_of}
+use Rattle.gp_tree.specs.Find.{is_named}
 use Rattle.gp_glb.specs.Uri.{code_of, uri_bytes}
 use Rattle.gp_fields.specs.Fields.{BufferFields, ViewFields, PackedFields}
-use Rattle.gp_asset.specs.declared.fault.AssetFault.TheVariants.{Buffer, Scheme, Base64}
-use Rattle.gp_asset.specs.Checks.{Checked, ◌>>=◌, unless}
+use Rattle.gp_rules.specs.declared.fault.AssetFault.TheVariants.{Buffer, Scheme, Base64}
+use Rattle.gp_fields.specs.Record.{◌>>=◌}
+use Rattle.gp_rules.specs.Checks.{Checked, unless}
 
 -- ---- which buffers need their bytes
 

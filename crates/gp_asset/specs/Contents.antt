@@ -1,7 +1,7 @@
 -- The bytes of buffer views (glTF 2.0, section 5.11, and EXT_meshopt_compression).
 use Rattle.std.specs.Prelude.{ℕ, List, [], map, take, drop, slice_get, unwrap_or, Option, Some, None, option_map, option_and_then}
-use Rattle.gp_asset.specs.declared.storage.View.{View}
-use Rattle.gp_asset.specs.declared.storage.Packed.{Packed}
+use Rattle.gp_rules.specs.declared.storage.View.{View}
+use Rattle.gp_rules.specs.declared.storage.Packed.{Packed}
 use Rattle.gp_asset.specs.Asset.{AssetParts}
 
 -- so many bytes from an offset on

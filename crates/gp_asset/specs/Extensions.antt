@@ -2,14 +2,14 @@
 use Prim.Native.String.{String}
 use Rattle.std.specs.Prelude.{ℕ, Bool, true, false, ◌&&◌, ◌||◌, List, [], ◌∷◌, ◌++◌, filter_map, Option, Some, None, Ok, codes}
 use Rattle.std.specs.List.{list_any, list_all}
-use Rattle.gp_json.specs.Plain.{PlainTree}
-use Rattle.gp_json.specs.Find.{array_items, is_named, find_member}
-use Rattle.gp_json.specs.Anywhere.{keys_under}
+use Rattle.gp_tree.specs.Plain.{PlainTree}
+use Rattle.gp_tree.specs.Find.{array_items, is_named, find_member}
+use Rattle.gp_tree.specs.Anywhere.{keys_under}
 use Rattle.gp_fields.specs.Shapes.{a_text}
-use Rattle.gp_asset.specs.declared.fault.Form.{Form}
-use Rattle.gp_asset.specs.declared.fault.Form.TheVariants.{Plain, Any}
-use Rattle.gp_asset.specs.declared.fault.AssetFault.TheVariants.{AlreadyPacked, Foreign}
-use Rattle.gp_asset.specs.Checks.{Checked, unless}
+use Rattle.gp_asset.specs.declared.purpose.Form.{Form}
+use Rattle.gp_asset.specs.declared.purpose.Form.TheVariants.{Plain, Any}
+use Rattle.gp_rules.specs.declared.fault.AssetFault.TheVariants.{AlreadyPacked, Foreign}
+use Rattle.gp_rules.specs.Checks.{Checked, unless}
 
 -- the texts of a list that is a member of this name
 abbrev pub texts_in : Option PlainTree → List (List ℕ)

@@ -1,12 +1,6 @@
-pub mod Checks
-pub mod Kinds
-pub mod Sizes
 pub mod Extensions
 pub mod Buffers
 pub mod Stored
-pub mod Views
-pub mod Accessors
-pub mod Loads
 pub mod Primitives
 pub mod Uses
 pub mod Asset

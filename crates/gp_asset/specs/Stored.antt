@@ -2,7 +2,7 @@
 use Rattle.std.specs.Prelude.{ℕ, List, [], unwrap_or, Option, Some, None, Ok, Err}
 use Rattle.gp_asset.specs.declared.buffers.BufferBytes.{BufferBytes}
 use Rattle.gp_asset.specs.declared.buffers.BufferBytes.TheVariants.{Unneeded, Chunk, Decoded}
-use Rattle.gp_asset.specs.Checks.{Checked}
+use Rattle.gp_rules.specs.Checks.{Checked}
 
 abbrev pub bytes_in : BufferBytes → Option (List ℕ)
 bytes_in Unneeded = None

@@ -3,8 +3,8 @@ use Rattle.std.specs.Prelude.{ℕ, List, [], ◌∷◌, ◌++◌, map, flat_map,
 use Rattle.std.specs.List.{enumerate_from}
 use Rattle.gp_fields.specs.declared.geometry.Entry.{Entry}
 use Rattle.gp_fields.specs.declared.sampling.SamplerFields.{SamplerFields}
-use Rattle.gp_asset.specs.declared.accessing.Accessor.{Accessor}
-use Rattle.gp_asset.specs.declared.accessing.Sparse.{Sparse}
+use Rattle.gp_rules.specs.declared.accessing.Accessor.{Accessor}
+use Rattle.gp_rules.specs.declared.accessing.Sparse.{Sparse}
 use Rattle.gp_asset.specs.declared.geometry.Primitive.{Primitive}
 use Rattle.gp_asset.specs.declared.usage.AccessorUse.{AccessorUse}
 use Rattle.gp_asset.specs.declared.usage.Role.{Role}

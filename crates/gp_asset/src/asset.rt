@@ -1,11 +1,10 @@
 // What a program holds of an asset.
 ghost use Rattle.std.specs.Prelude.{◌≡◌};
 
-use crate::accessing::Accessor;
 use crate::buffers::BufferBytes;
 use crate::geometry::Primitive;
-use crate::storage::View;
 use crate::usage::AccessorUse;
+use gp_rules::{Accessor, View};
 use std::marker::Model;
 
 /// An asset: buffer views, accessors, primitives, who uses which accessor, images, and the bytes of buffers. A BIN chunk

@@ -1,21 +1,21 @@
 // The bytes of buffers (glTF 2.0, sections 3.6.1 and 5.10).
 ghost use Rattle.std.specs.Prelude.{◌≡◌, not, map, option_map};
 ghost use Rattle.std.specs.List.{list_all};
-ghost use Rattle.gp_json.specs.Key.{units};
-ghost use Rattle.gp_json.specs.Plain.{plain, plain_member};
-ghost use Rattle.gp_json.specs.Find.{object_members};
-ghost use Rattle.gp_json.specs.Values.{ascii_of};
+ghost use Rattle.gp_tree.specs.Key.{units};
+ghost use Rattle.gp_tree.specs.Plain.{plain, plain_member};
+ghost use Rattle.gp_tree.specs.Find.{object_members};
+ghost use Rattle.gp_tree.specs.Values.{ascii_of};
 ghost use Rattle.gp_fields.specs.Fields.{key_of};
-ghost use Rattle.gp_asset.specs.declared.fault.AssetFault.TheVariants.{Buffer};
-ghost use Rattle.gp_asset.specs.Checks.{each, unless, Answers};
+ghost use Rattle.gp_rules.specs.declared.fault.AssetFault.TheVariants.{Buffer};
+ghost use Rattle.gp_rules.specs.Checks.{each, unless, Answers};
 ghost use Rattle.gp_asset.specs.Buffers.{is_marker, stored_bytes, bytes_if, bytes_of_uri, buffer_of};
 ghost use Rattle.gp_asset.specs.Stored.{bytes_in, shown, present};
 
-use crate::fault::{AssetFault, AssetRefusal};
 use crate::needed::needed_buffers;
 use gp_fields::{BufferFields, ViewFields};
 use gp_glb::{UriFault, data_uri};
-use gp_json::{Lexeme, Member, Tree, key_is};
+use gp_rules::{AssetFault, AssetRefusal};
+use gp_tree::{Lexeme, Member, Tree, key_is};
 use std::alloc::Global;
 
 // The bytes of a buffer, where they are needed: the BIN chunk or a decoded data URI.

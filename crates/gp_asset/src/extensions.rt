@@ -1,15 +1,16 @@
 // Which extensions an asset uses (glTF 2.0, section 3.12).
 ghost use Rattle.std.specs.Prelude.{◌≡◌, ◌++◌, ◌&&◌, codes, map, option_map, Some, IfOk, OnOk};
-ghost use Rattle.gp_json.specs.Plain.{plain, plain_items, list};
-ghost use Rattle.gp_json.specs.Find.{is_named};
+ghost use Rattle.gp_tree.specs.Plain.{plain, plain_items, list};
+ghost use Rattle.gp_tree.specs.Find.{is_named};
 ghost use Rattle.gp_fields.specs.Shapes.{a_text};
-ghost use Rattle.gp_asset.specs.Checks.{passed};
+ghost use Rattle.gp_rules.specs.Checks.{passed};
 ghost use Rattle.gp_asset.specs.Extensions.{texts_in, listed, extensions_in_use, is_among, is_one_of, general_extensions, material_extensions, is_on_closed_list, are_closed, is_plain, supported};
 
-use crate::fault::{AssetFault, Form};
+use crate::purpose::Form;
 use gp_fields::as_text;
 use gp_host::NoMemory;
-use gp_json::{Lexeme, Tree, key_is};
+use gp_rules::AssetFault;
+use gp_tree::{Lexeme, Tree, key_is};
 use std::alloc::{AllocError, Global};
 
 /// The names of the extensions in use, as they are spelled: the items of both lists of the root, then the keys of each

@@ -1,24 +1,20 @@
 // Reading an asset.
 ghost use Rattle.std.specs.Prelude.{Ok, map, option_map};
-ghost use Rattle.gp_json.specs.Plain.{plain};
+ghost use Rattle.gp_tree.specs.Plain.{plain};
 ghost use Rattle.gp_fields.specs.Record.{asset_fields};
-ghost use Rattle.gp_asset.specs.Checks.{Answers};
+ghost use Rattle.gp_rules.specs.Checks.{Answers};
 ghost use Rattle.gp_asset.specs.Extensions.{extensions_in_use, supported};
 ghost use Rattle.gp_asset.specs.Asset.{asset, by_rules, in_shape, parts};
 
-use crate::accessing::Accessor;
-use crate::accessors::read_accessors;
 use crate::asset::Asset;
 use crate::buffers::{BufferBytes, read_buffers};
 use crate::extensions::{are_closed, check_extensions, extensions_in_use};
-use crate::fault::{AssetFault, AssetRefusal, Form};
-use crate::load::is_too_much;
 use crate::primitives::read_primitives;
-use crate::storage::View;
+use crate::purpose::Form;
 use crate::uses::read_uses;
-use crate::views::read_views;
 use gp_fields::{AccessorFields, AssetFields, BufferFields, FieldRefusal, ViewFields, read_fields};
-use gp_json::{Lexeme, Tree};
+use gp_rules::{Accessor, AssetFault, AssetRefusal, View, is_too_much, read_accessors, read_views};
+use gp_tree::{Lexeme, Tree};
 use std::alloc::Global;
 use std::marker::Model;
 

@@ -1,11 +1,11 @@
 // Why a file is refused.
 ghost use Rattle.std.specs.Prelude.{◌≡◌};
 
-use crate::fault::{AssetFault, AssetRefusal};
 use gp_glb::GlbFault;
 use gp_groups::StreamFault;
 use gp_host::NoMemory;
 use gp_json::{JsonFault, JsonRefusal};
+use gp_rules::{AssetFault, AssetRefusal};
 use thiserror::Error;
 
 /// The first fault of a file, in the order in which faults are looked for, or want of memory.

@@ -3,7 +3,7 @@ use Rattle.std.proofs.Common.{◌≡◌, inl, inr, ℕ, List, Result, Ok, Err, r
 use Rattle.gp_groups.specs.declared.fault.StreamFault.{StreamFault}
 use Rattle.gp_asset.specs.declared.refusal.Refusal.{Refusal}
 use Rattle.gp_asset.specs.declared.refusal.Refusal.TheVariants.{Glb, Json, Asset, Stream, NotYet, OutputTooLarge, Memory}
-use Rattle.gp_asset.specs.declared.fault.Form.{Form}
+use Rattle.gp_asset.specs.declared.purpose.Form.{Form}
 use Rattle.gp_document.specs.Accepted.{IsAccepted}
 use Rattle.gp_document.specs.Operation.{Made, Hindrance, unbuilt, faulty_stream, Operation}
 use Rattle.gp_document.specs.Answers.{AnswersOrMemory, IsOnlyAnswer}
@@ -68,3 +68,12 @@ refused_answers operation bytes refusal (inr none) = inr (ap Err none)
 pub only_one : (operation : Operation) (bytes : List ℕ) (answer : Result Output Refusal) → AnswersOrMemory operation bytes answer → IsOnlyAnswer operation bytes answer
 only_one operation bytes answer (inl own) other h = inl (have_one_answer operation bytes answer other own h)
 only_one operation bytes answer (inr none) other h = inr none
+
+-- so an accepted input has no other answer than what the operation makes of it
+pub only_finished : (operation : Operation) (bytes : List ℕ) (accepted : Accepted) (answer : Result Output Refusal)
+    → IsAcceptedAs operation.form bytes accepted → Finishes (operation.make (document_of accepted.document) accepted.asset) answer → IsOnlyAnswer operation bytes answer
+only_finished operation bytes accepted answer h done = only_one operation bytes answer (finished_answers operation bytes accepted answer h done)
+
+-- and any other input none than its fault
+pub only_refused : (operation : Operation) (bytes : List ℕ) (refusal : Refusal) → IsInputFaultOrMemory operation.form bytes refusal → IsOnlyAnswer operation bytes (Err refusal)
+only_refused operation bytes refusal h = only_one operation bytes (Err refusal) (refused_answers operation bytes refusal h)

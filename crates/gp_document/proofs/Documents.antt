@@ -1,8 +1,8 @@
 -- A container and the tree of its JSON are a document.
 use Rattle.std.proofs.Common.{ℕ, List, Ok}
-use Rattle.gp_json.specs.Plain.{PlainTree}
+use Rattle.gp_tree.specs.Plain.{PlainTree}
 use Rattle.gp_json.specs.Spelling.{Spells}
-use Rattle.gp_json.specs.Sound.{IsSound}
+use Rattle.gp_tree.specs.Sound.{IsSound}
 use Rattle.gp_glb.specs.Container.{Container}
 use Rattle.gp_glb.specs.Faults.{Reads}
 use Rattle.gp_document.specs.Document.{IsDocument}

@@ -3,21 +3,21 @@ use Rattle.std.proofs.Common.{◌≡◌, ℕ, ◌+◌, ◌<◌, ◌≤◌, ◌^�
 use Rattle.std.proofs.lemmas.Bool.Decides.{nat_tests}
 use Rattle.std.specs.List.{sum_by}
 use Rattle.std.proofs.lemmas.List.Sums.{sum_by-cons}
-use Rattle.gp_json.specs.Plain.{PlainTree}
+use Rattle.gp_tree.specs.Plain.{PlainTree}
 use Rattle.gp_fields.specs.Fields.{BufferFields, ViewFields, AccessorFields}
-use Rattle.gp_fields.specs.Record.{AssetFields, asset_fields}
-use Rattle.gp_asset.specs.declared.fault.Form.{Form}
-use Rattle.gp_asset.specs.declared.fault.AssetFault.{AssetFault}
-use Rattle.gp_asset.specs.declared.fault.AssetFault.TheVariants.{View as BadView, TooMuchData}
-use Rattle.gp_asset.specs.declared.accessing.Accessor.{Accessor}
-use Rattle.gp_asset.specs.declared.storage.View.{View}
-use Rattle.gp_asset.specs.declared.storage.Packed.{Packed}
-use Rattle.gp_asset.specs.Checks.{Checked, ◌>>=◌, unless, each}
-use Rattle.gp_asset.specs.Views.{is_bad_view, packed_of, view_of}
+use Rattle.gp_fields.specs.Record.{◌>>=◌, AssetFields, asset_fields}
+use Rattle.gp_asset.specs.declared.purpose.Form.{Form}
+use Rattle.gp_rules.specs.declared.fault.AssetFault.{AssetFault}
+use Rattle.gp_rules.specs.declared.fault.AssetFault.TheVariants.{View as BadView, TooMuchData}
+use Rattle.gp_rules.specs.declared.accessing.Accessor.{Accessor}
+use Rattle.gp_rules.specs.declared.storage.View.{View}
+use Rattle.gp_rules.specs.declared.storage.Packed.{Packed}
+use Rattle.gp_rules.specs.Checks.{Checked, unless, each}
+use Rattle.gp_rules.specs.Views.{is_bad_view, packed_of, view_of}
 use Rattle.gp_asset.specs.Asset.{AssetParts, RuledParts, asset, by_rules, parts, in_shape}
 use Rattle.gp_asset.specs.Extensions.{extensions_in_use, supported}
 use Rattle.gp_asset.specs.Buffers.{buffer_of}
-use Rattle.gp_asset.specs.Accessors.{accessor_of, is_too_much, load, padded_load}
+use Rattle.gp_rules.specs.Accessors.{accessor_of, is_too_much, load, padded_load}
 
 -- a check that lets a value through has found the value of its first step
 pub step : {A B : Type 0} {P : Type 0} (first : Checked A) (f : A → Checked B) (b : B) → first >>= f ≡ Ok b → ((a : A) → first ≡ Ok a → f a ≡ Ok b → P) → P
@@ -48,7 +48,7 @@ counted size f given at (x ∷ xs) ys e =
 not_empty : (n : ℕ) (y z : Bool) → ((n == 0 || y) || z) ≡ false → 1 ≤ n
 not_empty n y z e = grind (arith, nat_tests)
 
-abbrev with_packed : ViewFields → Option Packed → View
+abbrev pub with_packed : ViewFields → Option Packed → View
 with_packed v packed = record { buffer = v.buffer; offset = v.offset; length = v.length; stride = v.stride; packed = packed }
 
 abbrev view_size : View → ℕ
@@ -70,16 +70,16 @@ little : (vs : List View) (xs : List Accessor) → is_too_much vs xs ≡ false �
 unfolding load
 little vs xs e h = few_of (length vs) (sum_by view_size vs) (sum_by padded_load xs) e h
 
-abbrev ruled_by : List (Option (List ℕ)) → List View → List Accessor → RuledParts
+abbrev pub ruled_by : List (Option (List ℕ)) → List View → List Accessor → RuledParts
 ruled_by bs vs xs = record { buffers = bs; views = vs; accessors = xs }
 
-abbrev load_on : List (Option (List ℕ)) → List View → List Accessor → Checked RuledParts
+abbrev pub load_on : List (Option (List ℕ)) → List View → List Accessor → Checked RuledParts
 load_on bs vs xs = unless (is_too_much vs xs) TooMuchData (Ok (ruled_by bs vs xs))
 
-abbrev accessors_on : List AccessorFields → List (Option (List ℕ)) → List View → Checked RuledParts
+abbrev pub accessors_on : List AccessorFields → List (Option (List ℕ)) → List View → Checked RuledParts
 accessors_on accessors bs vs = each (accessor_of vs) 0 accessors >>= λ xs. load_on bs vs xs
 
-abbrev views_on : List BufferFields → List ViewFields → List AccessorFields → List (Option (List ℕ)) → Checked RuledParts
+abbrev pub views_on : List BufferFields → List ViewFields → List AccessorFields → List (Option (List ℕ)) → Checked RuledParts
 views_on buffers views accessors bs = each (view_of buffers) 0 views >>= λ vs. accessors_on accessors bs vs
 
 few_ruled : (buffers : List BufferFields) (views : List ViewFields) (accessors : List AccessorFields) (bin : Option (List ℕ)) (ruled : RuledParts) → by_rules buffers views accessors bin ≡ Ok ruled → length ruled.views < 2 ^ 32
@@ -94,10 +94,10 @@ few_ruled buffers views accessors bin ruled e =
 
 -- ---- all of an asset
 
-abbrev rules_on : AssetFields → Option (List ℕ) → List (List ℕ) → Checked AssetParts
+abbrev pub rules_on : AssetFields → Option (List ℕ) → List (List ℕ) → Checked AssetParts
 rules_on fields bin used = by_rules fields.buffers fields.views fields.accessors bin >>= λ ruled. Ok (parts fields used ruled)
 
-abbrev supported_on : Form → PlainTree → Option (List ℕ) → AssetFields → Checked AssetParts
+abbrev pub supported_on : Form → PlainTree → Option (List ℕ) → AssetFields → Checked AssetParts
 supported_on form t bin fields = supported form (extensions_in_use t) >>= λ used. rules_on fields bin used
 
 pub few_views : (form : Form) (t : PlainTree) (bin : Option (List ℕ)) (a : AssetParts) → asset form t bin ≡ Ok a → length a.views < 2 ^ 32

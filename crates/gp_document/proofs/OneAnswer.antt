@@ -12,10 +12,10 @@ use Rattle.gp_glb.specs.Faults.{IsFirstFault as IsGlbFault, Reads}
 use Rattle.gp_glb.specs.declared.fault.GlbFault.{GlbFault}
 use Rattle.gp_glb.specs.declared.fault.GlbFault.TheVariants.{JsonTooLarge}
 use Rattle.gp_glb.proofs.OneReading.{stands_one, reads_one}
-use Rattle.gp_asset.specs.Checks.{Checked}
+use Rattle.gp_rules.specs.Checks.{Checked}
 use Rattle.gp_asset.specs.Asset.{AssetParts}
-use Rattle.gp_asset.specs.declared.fault.AssetFault.{AssetFault}
-use Rattle.gp_asset.specs.declared.fault.Form.{Form}
+use Rattle.gp_rules.specs.declared.fault.AssetFault.{AssetFault}
+use Rattle.gp_asset.specs.declared.purpose.Form.{Form}
 use Rattle.gp_asset.specs.declared.refusal.Refusal.{Refusal}
 use Rattle.gp_asset.specs.declared.refusal.Refusal.TheVariants.{Glb, Json, Asset, Stream, NotYet, OutputTooLarge, Memory}
 use Rattle.gp_document.specs.Document.{Document, Holds, IsDocument, glb_of}

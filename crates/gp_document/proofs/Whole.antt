@@ -1,6 +1,6 @@
 -- From a document and its asset to what is accepted.
 use Rattle.std.proofs.Common.{◌≡◌, ℕ, List, Ok}
-use Rattle.gp_asset.specs.declared.fault.Form.{Form}
+use Rattle.gp_asset.specs.declared.purpose.Form.{Form}
 use Rattle.gp_glb.specs.Container.{AreWholeChunks}
 use Rattle.gp_glb.proofs.ReadingBack.{rests_are_whole}
 use Rattle.gp_document.specs.Document as meant

@@ -1,9 +1,9 @@
 -- A container that is written holds what was written into it.
 use Rattle.std.proofs.Common.{ℕ, ◌<◌, ◌^◌, List, ◌++◌, length, replicate, Option, ap, ◌∙◌, append_assoc, arith, refl, zero, suc, inl}
 use Rattle.std.specs.Option.{option_map}
-use Rattle.gp_json.specs.Plain.{PlainTree}
-use Rattle.gp_json.specs.Sound.{IsSound}
-use Rattle.gp_json.specs.Lexical.{IsSpace, IsBlank}
+use Rattle.gp_tree.specs.Plain.{PlainTree}
+use Rattle.gp_tree.specs.Sound.{IsSound}
+use Rattle.gp_tree.specs.Lexical.{IsSpace, IsBlank}
 use Rattle.gp_json.specs.Spelling.{Spells}
 use Rattle.gp_json.specs.Text.{text_of}
 use Rattle.gp_json.proofs.Compact.{compact_spells}

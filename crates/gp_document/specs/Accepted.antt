@@ -1,8 +1,8 @@
 -- What a file stands for: an asset, or its first fault.
 use Rattle.std.specs.Prelude.{◌≡◌, ℕ, List, Ok, Err}
-use Rattle.gp_asset.specs.declared.fault.Form.{Form}
-use Rattle.gp_asset.specs.declared.fault.AssetFault.{AssetFault}
-use Rattle.gp_asset.specs.Checks.{Checked}
+use Rattle.gp_asset.specs.declared.purpose.Form.{Form}
+use Rattle.gp_rules.specs.declared.fault.AssetFault.{AssetFault}
+use Rattle.gp_rules.specs.Checks.{Checked}
 use Rattle.gp_asset.specs.Asset.{AssetParts, asset}
 use Rattle.gp_document.specs.Document.{Document, Holds, IsDocument}
 

@@ -1,7 +1,7 @@
 -- What a file holds: its JSON tree, its BIN chunk, and the other chunks behind them (glTF 2.0, GLB file format).
 use Rattle.std.specs.Prelude.{ℕ, ◌≤◌, ◌^◌, List, length, Option}
-use Rattle.gp_json.specs.Plain.{PlainTree}
-use Rattle.gp_json.specs.Sound.{IsSound}
+use Rattle.gp_tree.specs.Plain.{PlainTree}
+use Rattle.gp_tree.specs.Sound.{IsSound}
 use Rattle.gp_json.specs.Spelling.{Spells}
 use Rattle.gp_json.specs.Text.{text_of}
 use Rattle.gp_glb.specs.Container.{StandsFor, glb}

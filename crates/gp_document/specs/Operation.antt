@@ -1,7 +1,7 @@
 -- What an operation on a file makes of it: another file.
-use Rattle.std.specs.Prelude.{ℕ, Result}
+use Rattle.std.specs.Prelude.{ℕ, Bool, true, false, Result, Err}
 use Rattle.gp_groups.specs.declared.fault.StreamFault.{StreamFault}
-use Rattle.gp_asset.specs.declared.fault.Form.{Form}
+use Rattle.gp_asset.specs.declared.purpose.Form.{Form}
 use Rattle.gp_asset.specs.Asset.{AssetParts}
 use Rattle.gp_document.specs.Document.{Document}
 
@@ -15,6 +15,11 @@ pub record Made : Type 0 where
 pub data Hindrance : Type 0 where
   unbuilt : Hindrance
   faulty_stream : ℕ → StreamFault → Hindrance
+
+-- nothing is made where more would be asked for than is built
+abbrev pub unless_unbuilt : Bool → Result Made Hindrance → Result Made Hindrance
+unless_unbuilt true made = Err unbuilt
+unless_unbuilt false made = made
 
 -- how the asset is read, and what is made of a document and its asset
 pub record Operation : Type 0 where

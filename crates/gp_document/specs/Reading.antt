@@ -1,10 +1,10 @@
 -- What is kept of a file that is read.
 use Rattle.std.specs.Prelude.{◌≡◌, ◌⊎◌, ℕ, ◌<◌, ◌^◌, List, length, Ok, option_map}
-use Rattle.gp_json.specs.Plain.{plain}
+use Rattle.gp_tree.specs.Plain.{plain}
 use Rattle.gp_json.specs.Fault.{HasFault as HasJsonFault}
 use Rattle.gp_glb.specs.Container.{Container, AreWholeChunks}
 use Rattle.gp_glb.specs.Faults.{IsFirstFault as IsGlbFault, Reads}
-use Rattle.gp_asset.specs.declared.fault.Form.{Form}
+use Rattle.gp_asset.specs.declared.purpose.Form.{Form}
 use Rattle.gp_asset.specs.declared.refusal.Refusal.{Refusal}
 use Rattle.gp_asset.specs.declared.refusal.Refusal.TheVariants.{Glb, Json, Asset, Memory}
 use Rattle.gp_document.specs.Document as meant

@@ -1,6 +1,6 @@
 -- What writing a document gives, and what an operation answers for an input without a fault.
 use Rattle.std.specs.Prelude.{◌≡◌, ℕ, ◌≤◌, ◌^◌, List, length, Option, Result, Ok, Err, ⊤}
-use Rattle.gp_json.specs.Plain.{PlainTree}
+use Rattle.gp_tree.specs.Plain.{PlainTree}
 use Rattle.gp_document.specs.Document.{glb_of}
 use Rattle.gp_document.specs.Operation.{Made, Hindrance, unbuilt, faulty_stream}
 use Rattle.gp_document.specs.Answers.{IsOutput}

@@ -4,7 +4,8 @@ ghost use Rattle.gp_document.specs.Reading.{HoldsDocument, IsTextFaultOrMemory};
 
 use gp_asset::Refusal;
 use gp_glb::split;
-use gp_json::{Tree, read};
+use gp_json::read;
+use gp_tree::Tree;
 use std::alloc::Global;
 
 /// A JSON tree, the BIN chunk, and the chunks behind them with their headers (glTF 2.0, GLB file format).

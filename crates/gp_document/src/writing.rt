@@ -1,6 +1,6 @@
 // Documents as containers.
 ghost use Rattle.std.specs.Prelude.{◌≡◌, ◌^◌, nat_lt, length, option_map};
-ghost use Rattle.gp_json.specs.Plain.{plain};
+ghost use Rattle.gp_tree.specs.Plain.{plain};
 ghost use Rattle.gp_glb.specs.Container.{AreWholeChunks, glb_len};
 ghost use Rattle.gp_document.specs.Writing.{made_of, Writes};
 
@@ -8,7 +8,8 @@ use crate::output::Output;
 use gp_asset::Refusal;
 use gp_glb::{join, total};
 use gp_host::Bytes;
-use gp_json::{Tree, print};
+use gp_json::print;
+use gp_tree::Tree;
 use std::alloc::Global;
 
 // From this length on a part alone is too large for a container.

@@ -1,8 +1,8 @@
 -- The fields of an asset, member by member, and those of another root with other buffers and views.
 use Rattle.std.specs.Prelude.{is_ok, codes, IsOk}
 use Rattle.std.proofs.Common.{◌≡◌, List, length, Result, Ok, Err, refl, sym, ap, ◌∙◌, subst}
-use Rattle.gp_json.specs.Plain.{PlainTree, null, truth, number, text, list, members}
-use Rattle.gp_json.specs.Find.{IsObject, find_member}
+use Rattle.gp_tree.specs.Plain.{PlainTree, null, truth, number, text, list, members}
+use Rattle.gp_tree.specs.Find.{IsObject, find_member}
 use Rattle.gp_fields.specs.declared.fault.Place.TheVariants.{ExtensionsUsed, ExtensionsRequired, Buffers, BufferViews, Accessors, Meshes, Skins, Animations, Images}
 use Rattle.gp_fields.specs.declared.fault.FieldFault.{FieldFault}
 use Rattle.gp_fields.specs.Shapes.{object_of, a_text}

@@ -1,14 +1,13 @@
 -- What the tree of an asset has in common with the tree that it was.
 use Rattle.std.proofs.Common.{◌≡◌, ℕ, List, [], ◌∷◌, map, Some, refl, sym, ap, ap₂, ◌∙◌}
-use Rattle.gp_json.specs.Plain.{PlainTree, PlainTrees, null, truth, number, text, list, members, no_items, item, trees_of}
-use Rattle.gp_json.specs.Sound.{HasDistinctKeys, ItemsHaveDistinctKeys}
-use Rattle.gp_json.specs.Find.{item_list, find_member}
-use Rattle.gp_json.specs.TreeEdits.{without, at_member, with_items}
-use Rattle.gp_json.proofs.Edited.{items_of}
+use Rattle.gp_tree.specs.Plain.{PlainTree, PlainTrees, null, truth, number, text, list, members, no_items, item, trees_of}
+use Rattle.gp_tree.specs.Sound.{HasDistinctKeys, ItemsHaveDistinctKeys}
+use Rattle.gp_tree.specs.Find.{item_list, find_member}
+use Rattle.gp_tree.specs.TreeEdits.{without, at_member, with_items}
+use Rattle.gp_tree.proofs.Edited.{items_of}
 use Rattle.gp_edits.specs.Changes.{emptied, left_out, without_text, change_each}
-use Rattle.gp_edits.specs.Edits.{extension_name, sized_buffer, with_one_buffer, without_extension_named, without_compression}
+use Rattle.gp_edits.specs.Edits.{plain_view, with_plain_views, extension_name, sized_buffer, with_one_buffer, without_extension_named, without_compression}
 use Rattle.gp_edits.specs.Common.{common_view, common_names, common}
-use Rattle.gp_edits.specs.Laws.{plain_view_at, with_plain_views_at}
 use Rattle.gp_edits.proofs.Members.{IsApart, HasOnce, names_apart, alter, gone, made, once, once_kept, once_set, once_removed, once_changed, removed_is, changed_is, commute, removed_changed, set_then_removed, removed_twice, changed_twice, changes_agree}
 use Rattle.gp_edits.proofs.Emptied.{unless_empty, unless_emptied, emptied_is, left_out_is, absorbed, text_out_twice, value_distinct}
 use Rattle.gp_edits.proofs.CommonViews.{placed_common, uncompressed_common}
@@ -124,17 +123,17 @@ views_common change values t h keeps =
 
 -- ---- all of them
 
-plain_views_common : (starts : List ℕ) (t : PlainTree) → HasDistinctKeys t → common (with_plain_views_at starts t) ≡ common t
-plain_views_common starts t h = views_common plain_view_at starts t h (λ start v d. placed_common 0 start (without_compression v) ∙ uncompressed_common v d)
+plain_views_common : (starts : List ℕ) (t : PlainTree) → HasDistinctKeys t → common (with_plain_views starts t) ≡ common t
+plain_views_common starts t h = views_common plain_view starts t h (λ start v d. placed_common 0 start (without_compression v) ∙ uncompressed_common v d)
 
 once_viewed : (key : List ℕ) (starts : List ℕ) (t : PlainTree) → IsApart key views_key → HasDistinctKeys t
-    → HasOnce key (with_plain_views_at starts t)
-once_viewed key starts t apart h = once_changed key views_key (with_items (change_each plain_view_at starts)) t apart (once key t h)
+    → HasOnce key (with_plain_views starts t)
+once_viewed key starts t apart h = once_changed key views_key (with_items (change_each plain_view starts)) t apart (once key t h)
 
 pub with_buffer_common : (length : ℕ) (starts : List ℕ) (t : PlainTree) → HasDistinctKeys t
-    → common (without_extension_named (with_one_buffer length (with_plain_views_at starts t))) ≡ common t
+    → common (without_extension_named (with_one_buffer length (with_plain_views starts t))) ≡ common t
 with_buffer_common length starts t h =
-    let u = with_plain_views_at starts t in
+    let u = with_plain_views starts t in
     named_common (with_one_buffer length u)
     (once_one_buffer used_key length u (names_apart used_key buffers_key refl) (once_viewed used_key starts t (names_apart used_key views_key refl) h))
     (once_one_buffer required_key length u (names_apart required_key buffers_key refl) (once_viewed required_key starts t (names_apart required_key views_key refl) h))
@@ -142,9 +141,9 @@ with_buffer_common length starts t h =
     ∙ plain_views_common starts t h
 
 pub without_buffers_common : (starts : List ℕ) (t : PlainTree) → HasDistinctKeys t
-    → common (without_extension_named (without buffers_key (with_plain_views_at starts t))) ≡ common t
+    → common (without_extension_named (without buffers_key (with_plain_views starts t))) ≡ common t
 without_buffers_common starts t h =
-    let u = with_plain_views_at starts t in
+    let u = with_plain_views starts t in
     named_common (without buffers_key u)
     (once_removed used_key buffers_key u (names_apart used_key buffers_key refl) (once_viewed used_key starts t (names_apart used_key views_key refl) h))
     (once_removed required_key buffers_key u (names_apart required_key buffers_key refl) (once_viewed required_key starts t (names_apart required_key views_key refl) h))

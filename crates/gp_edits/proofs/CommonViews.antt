@@ -1,8 +1,8 @@
 -- What a view has in common with the view that it was.
 use Rattle.std.proofs.Common.{◌≡◌, ℕ, List, refl, sym, ap, ◌∙◌}
-use Rattle.gp_json.specs.Plain.{PlainTree}
-use Rattle.gp_json.specs.Sound.{HasDistinctKeys}
-use Rattle.gp_json.specs.TreeEdits.{with_member, without}
+use Rattle.gp_tree.specs.Plain.{PlainTree}
+use Rattle.gp_tree.specs.Sound.{HasDistinctKeys}
+use Rattle.gp_tree.specs.TreeEdits.{with_member, without}
 use Rattle.gp_edits.specs.Changes.{whole_number, emptied, left_out}
 use Rattle.gp_edits.specs.Edits.{extension_name, placed, without_compression}
 use Rattle.gp_edits.specs.Common.{common_view}

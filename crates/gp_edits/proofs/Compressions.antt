@@ -1,8 +1,8 @@
 -- An extension object that a view is given, and a name that a list is given.
 use Rattle.std.proofs.Common.{◌≡◌, ℕ, true, List, [], ◌∷◌, None, is_some, refl, sym, ap, ◌∙◌}
-use Rattle.gp_json.specs.Plain.{PlainTree, text, list, members, no_items, no_members}
-use Rattle.gp_json.specs.Find.{find_member}
-use Rattle.gp_json.specs.TreeEdits.{with_member, at_member, and_items}
+use Rattle.gp_tree.specs.Plain.{PlainTree, text, list, members, no_items, no_members}
+use Rattle.gp_tree.specs.Find.{find_member}
+use Rattle.gp_tree.specs.TreeEdits.{with_member, at_member, and_items}
 use Rattle.gp_edits.specs.Edits.{extension_name, compression_object, compressed, with_name_in}
 use Rattle.gp_edits.specs.declared.compression.Compression.{Compression}
 use Rattle.gp_edits.proofs.Defaults.{with_default, default_none, default_is_some}

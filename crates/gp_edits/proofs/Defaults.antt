@@ -1,11 +1,11 @@
 -- A member whose value is changed, or made of a default where it isn't there.
 use Rattle.std.specs.Prelude.{if◌then◌else◌, unwrap_or}
 use Rattle.std.proofs.Common.{◌≡◌, ℕ, Bool, true, false, not, List, [], ◌∷◌, Option, Some, None, option_map, is_some, refl, sym, ap, ◌∙◌}
-use Rattle.gp_json.specs.Plain.{PlainTree, null, truth, number, text, list, members, members_of}
-use Rattle.gp_json.specs.Find.{PlainMember, is_named, member_list, object_members, value_of, find_member}
-use Rattle.gp_json.specs.TreeEdits.{set_first, change_first, with_member, at_member}
-use Rattle.gp_json.proofs.Inner.{members_back}
-use Rattle.gp_json.proofs.Firsts.{list_of}
+use Rattle.gp_tree.specs.Plain.{PlainTree, null, truth, number, text, list, members, members_of}
+use Rattle.gp_tree.specs.Find.{PlainMember, is_named, member_list, object_members, value_of, find_member}
+use Rattle.gp_tree.specs.TreeEdits.{set_first, change_first, with_member, at_member}
+use Rattle.gp_tree.proofs.Inner.{members_back}
+use Rattle.gp_tree.proofs.Firsts.{list_of}
 use Rattle.gp_edits.specs.Changes.{is_empty}
 use Rattle.gp_edits.proofs.Members.{IsOwn, IsApart, apart_back, HasOnce, alter_first, alter, made, changed_is, edits_agree, set_other, joined, agree, absent, once_set, find_kept}
 use Rattle.gp_edits.proofs.Emptied.{unless_empty}

@@ -1,13 +1,13 @@
 -- Changes made in the items of a list, one after the other.
 use Rattle.std.proofs.Common.{◌≡◌, ℕ, zero, suc, ◌+◌, ◌<◌, ◌≤◌, min, List, [], ◌∷◌, length, take, slice_get, Option, Some, None, refl, sym, ap, ◌∙◌, arith, IsSome, IfSome, map}
 use Rattle.std.proofs.lemmas.List.{length-map}
-use Rattle.gp_json.specs.Plain.{PlainTree, PlainTrees, trees_of, plain, plain_items}
-use Rattle.gp_json.specs.Find.{item_list}
-use Rattle.gp_json.specs.Look.{nth_item}
-use Rattle.gp_json.specs.TreeEdits.{change_nth}
-use Rattle.gp_json.specs.declared.tree.Tree.{Tree}
-use Rattle.gp_json.proofs.Edited.{items_of}
-use Rattle.gp_json.proofs.Inner.{trees_back}
+use Rattle.gp_tree.specs.Plain.{PlainTree, PlainTrees, trees_of, plain, plain_items}
+use Rattle.gp_tree.specs.Find.{item_list}
+use Rattle.gp_tree.specs.Look.{nth_item}
+use Rattle.gp_tree.specs.TreeEdits.{change_nth}
+use Rattle.gp_tree.specs.declared.tree.Tree.{Tree}
+use Rattle.gp_tree.proofs.Edited.{items_of}
+use Rattle.gp_tree.proofs.Inner.{trees_back}
 use Rattle.gp_edits.specs.Changes.{change_each, applied}
 
 abbrev Change : Type 0

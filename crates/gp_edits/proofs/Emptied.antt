@@ -1,13 +1,13 @@
 -- Members that a change may empty, as edits of the first member with their name.
 use Rattle.std.specs.Prelude.{if◌then◌else◌}
 use Rattle.std.proofs.Common.{◌≡◌, ℕ, Bool, true, false, not, ◌&&◌, List, [], ◌∷◌, Option, Some, None, option_map, filter, refl, sym, ap, ◌∙◌, subst}
-use Rattle.gp_json.specs.Plain.{PlainTree, null, truth, number, text, list, members, trees_of, members_of}
-use Rattle.gp_json.specs.Sound.{HasDistinctKeys, MembersHaveDistinctKeys}
-use Rattle.gp_json.specs.Find.{PlainMember, is_named, item_list, member_list, value_of, find_member}
-use Rattle.gp_json.specs.TreeEdits.{without, at_member}
-use Rattle.gp_json.proofs.Inner.{members_back}
-use Rattle.gp_json.proofs.Edited.{items_of}
-use Rattle.gp_json.proofs.Kept.{find_change}
+use Rattle.gp_tree.specs.Plain.{PlainTree, null, truth, number, text, list, members, trees_of, members_of}
+use Rattle.gp_tree.specs.Sound.{HasDistinctKeys, MembersHaveDistinctKeys}
+use Rattle.gp_tree.specs.Find.{PlainMember, is_named, item_list, member_list, value_of, find_member}
+use Rattle.gp_tree.specs.TreeEdits.{without, at_member}
+use Rattle.gp_tree.proofs.Inner.{members_back}
+use Rattle.gp_tree.proofs.Edited.{items_of}
+use Rattle.gp_tree.proofs.Kept.{find_change}
 use Rattle.gp_edits.specs.Changes.{is_empty, is_emptied, emptied_by, emptied, without_empty_by, left_out, is_text_named, without_text}
 use Rattle.gp_edits.proofs.Members.{alter, after, HasOnce, changed_is, joined, agree, absent, taken_out, made_so, changed_then_removed}
 

@@ -1,9 +1,9 @@
 -- Members that a change empties.
 use Rattle.std.proofs.Common.{◌≡◌, ℕ, Bool, if◌then◌else◌, codes, List, Option, Some, None, option_map, refl, sym, ap, ◌∙◌}
-use Rattle.gp_json.specs.Plain.{PlainTree}
-use Rattle.gp_json.specs.Find.{find_member}
-use Rattle.gp_json.specs.TreeEdits.{at_member, without}
-use Rattle.gp_json.proofs.Kept.{find_change}
+use Rattle.gp_tree.specs.Plain.{PlainTree}
+use Rattle.gp_tree.specs.Find.{find_member}
+use Rattle.gp_tree.specs.TreeEdits.{at_member, without}
+use Rattle.gp_tree.proofs.Kept.{find_change}
 use Rattle.gp_edits.specs.Changes.{is_emptied, emptied_by, emptied}
 use Rattle.gp_edits.specs.Edits.{extension_name, without_compression}
 use Rattle.gp_edits.specs.Steps.{is_empty_at, past_emptied_by, past_emptied}

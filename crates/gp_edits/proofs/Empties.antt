@@ -1,13 +1,13 @@
 -- What the code finds of empty values, and of members that are not there.
 use Rattle.std.proofs.Common.{◌≡◌, Bool, true, false, not, ◌==◌, List, [], ◌∷◌, length, Option, Some, None, option_map, is_some, refl, sym, ap, ◌∙◌, arith}
 use Rattle.std.proofs.lemmas.Bool.Decides.{nat_tests}
-use Rattle.gp_json.specs.declared.tree.Tree.{Tree, List as a_list, Members as an_object}
-use Rattle.gp_json.specs.declared.tree.Trees.{Trees}
-use Rattle.gp_json.specs.declared.tree.Member.{Member}
-use Rattle.gp_json.specs.declared.tree.Members.{Members}
-use Rattle.gp_json.specs.Plain.{PlainTree, list, members, plain, plain_items, plain_entries, plain_trees, plain_members}
-use Rattle.gp_json.proofs.Edited.{list_is}
-use Rattle.gp_json.proofs.Firsts.{object_is}
+use Rattle.gp_tree.specs.declared.tree.Tree.{Tree, List as a_list, Members as an_object}
+use Rattle.gp_tree.specs.declared.tree.Trees.{Trees}
+use Rattle.gp_tree.specs.declared.tree.Member.{Member}
+use Rattle.gp_tree.specs.declared.tree.Members.{Members}
+use Rattle.gp_tree.specs.Plain.{PlainTree, list, members, plain, plain_items, plain_entries, plain_trees, plain_members}
+use Rattle.gp_tree.proofs.Edited.{list_is}
+use Rattle.gp_tree.proofs.Firsts.{object_is}
 use Rattle.gp_edits.specs.Changes.{is_empty}
 
 no_items_are : (xs : List Tree) → (length xs == 0) ≡ is_empty (list (plain_items xs))

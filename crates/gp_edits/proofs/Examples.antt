@@ -1,7 +1,7 @@
 -- Worked edits.
 use Rattle.std.proofs.Common.{◌≡◌, ◌∷◌, codes, refl}
 use Rattle.std.specs.Str.{chars}
-use Rattle.gp_json.specs.Plain.{PlainTree, null, text, list, members, no_items, item, no_members, member}
+use Rattle.gp_tree.specs.Plain.{PlainTree, null, text, list, members, no_items, item, no_members, member}
 use Rattle.gp_edits.specs.Changes.{emptied}
 use Rattle.gp_edits.specs.Edits.{extension_name, without_compression, without_extension_named}
 

@@ -9,10 +9,10 @@ use Rattle.std.proofs.lemmas.Str.Parse.{tells_all_ascii_digits, tells_digits}
 use Rattle.std.specs.Fmt.{decimal}
 use Rattle.std.specs.Str.{all_ascii_digits}
 use Rattle.std.specs.Str.Parse.{AllDigits}
-use Rattle.gp_json.specs.Plain.{PlainTree}
-use Rattle.gp_json.specs.Values.{whole, IsName, IsNameByte}
-use Rattle.gp_json.specs.Find.{find_member}
-use Rattle.gp_json.proofs.Wholes.{some_whole}
+use Rattle.gp_tree.specs.Plain.{PlainTree}
+use Rattle.gp_tree.specs.Values.{whole, IsName, IsNameByte}
+use Rattle.gp_tree.specs.Find.{find_member}
+use Rattle.gp_tree.proofs.Wholes.{some_whole}
 use Rattle.gp_fields.specs.Shapes.{Shaped, below, reference, required, optional, defaulted}
 use Rattle.gp_edits.specs.Changes.{whole_number}
 

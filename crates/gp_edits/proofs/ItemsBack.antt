@@ -3,10 +3,10 @@ use Rattle.std.specs.Prelude.{is_none, filter}
 use Rattle.std.proofs.Common.{◌≡◌, ℕ, suc, ◌+◌, ◌<◌, ◌^◌, Bool, true, false, cond, List, [], ◌∷◌, length, Option, Some, None, Result, Ok, refl, sym, ap, ◌∙◌, subst, arith}
 use Rattle.std.specs.List.{filter_map, cons_option, position, position_from}
 use Rattle.std.proofs.lemmas.Iterator.Adapters.{position_from-zero}
-use Rattle.gp_json.specs.Plain.{PlainTree, PlainTrees, null, truth, number, text, list, members, no_items, item, trees_of}
-use Rattle.gp_json.specs.Sound.{HasDistinctKeys, ItemsHaveDistinctKeys}
-use Rattle.gp_json.specs.Find.{item_list, find_member}
-use Rattle.gp_json.proofs.Edited.{items_of}
+use Rattle.gp_tree.specs.Plain.{PlainTree, PlainTrees, null, truth, number, text, list, members, no_items, item, trees_of}
+use Rattle.gp_tree.specs.Sound.{HasDistinctKeys, ItemsHaveDistinctKeys}
+use Rattle.gp_tree.specs.Find.{item_list, find_member}
+use Rattle.gp_tree.proofs.Edited.{items_of}
 use Rattle.gp_fields.specs.declared.fault.Place.{Place}
 use Rattle.gp_fields.specs.declared.fault.Place.TheVariants.{BufferViews}
 use Rattle.gp_fields.specs.declared.fault.FieldFault.{FieldFault}
@@ -15,7 +15,7 @@ use Rattle.gp_fields.specs.Fields.{ViewFields, view_fields}
 use Rattle.gp_fields.specs.Record.{unless, lacks, items_of_shape, items_of_member}
 use Rattle.gp_edits.specs.Changes.{change_each}
 use Rattle.gp_edits.specs.Edits.{placed, without_compression}
-use Rattle.gp_edits.specs.ReadingBack.{plain_views_at, with_views_at, FitsEach}
+use Rattle.gp_edits.specs.ReadingBack.{plain_views_fields, with_views_at, FitsEach}
 use Rattle.gp_edits.proofs.ViewsBack.{plain_again}
 
 -- ---- items, one by one
@@ -85,7 +85,7 @@ some_read keep shape (t ∷ ts) (a ∷ values) h = some_step (keep t) shape t (f
 -- ---- views at their places
 
 each_view : (n m : ℕ) (offsets : List ℕ) (ts : PlainTrees) (fs : List ViewFields) → ItemsHaveDistinctKeys ts → AreRead (object_of (view_fields n)) (item_list ts) fs → length offsets ≡ length fs → (0 < length fs → 0 < m) → FitsEach offsets
-    → AreRead (object_of (view_fields m)) (change_each (λ offset v. placed 0 offset (without_compression v)) offsets (item_list ts)) (plain_views_at offsets fs)
+    → AreRead (object_of (view_fields m)) (change_each (λ offset v. placed 0 offset (without_compression v)) offsets (item_list ts)) (plain_views_fields offsets fs)
 each_view n m [] no_items [] keys h e some low = tt
 each_view n m [] no_items (f ∷ fs) keys h e some low = absurd h
 each_view n m [] (item t ts) [] keys h e some low = absurd h
@@ -101,23 +101,23 @@ each_view n m (o ∷ offsets) (item t ts) (f ∷ fs) keys h e some low =
     )
 
 pub views_again : (n m : ℕ) (offsets : List ℕ) (views : PlainTree) (fs : List ViewFields) → HasDistinctKeys views → items_of_shape BufferViews (object_of (view_fields n)) views ≡ Ok fs → length offsets ≡ length fs
-    → (0 < length fs → 0 < m) → FitsEach offsets → items_of_shape BufferViews (object_of (view_fields m)) (with_views_at offsets views) ≡ Ok (plain_views_at offsets fs)
+    → (0 < length fs → 0 < m) → FitsEach offsets → items_of_shape BufferViews (object_of (view_fields m)) (with_views_at offsets views) ≡ Ok (plain_views_fields offsets fs)
 views_again n m offsets null fs keys h e some low = absurd (cc)
 views_again n m offsets (truth b) fs keys h e some low = absurd (cc)
 views_again n m offsets (number s) fs keys h e some low = absurd (cc)
 views_again n m offsets (text s) fs keys h e some low = absurd (cc)
 views_again n m offsets (members ms) fs keys h e some low = absurd (cc)
 views_again n m offsets (list ts) fs keys h e some low =
-    read_items BufferViews (object_of (view_fields m)) (change_each (λ offset v. placed 0 offset (without_compression v)) offsets (item_list ts)) (plain_views_at offsets fs)
+    read_items BufferViews (object_of (view_fields m)) (change_each (λ offset v. placed 0 offset (without_compression v)) offsets (item_list ts)) (plain_views_fields offsets fs)
     (each_view n m offsets ts fs keys (items_are_read BufferViews (object_of (view_fields n)) ts fs h) e some low)
 
-pub views_counted : (offsets : List ℕ) (fs : List ViewFields) → length offsets ≡ length fs → length (plain_views_at offsets fs) ≡ length fs
+pub views_counted : (offsets : List ℕ) (fs : List ViewFields) → length offsets ≡ length fs → length (plain_views_fields offsets fs) ≡ length fs
 views_counted [] [] e = refl
 views_counted [] (f ∷ fs) e = absurd (omega (arith, e))
 views_counted (o ∷ offsets) [] e = refl
 views_counted (o ∷ offsets) (f ∷ fs) e = ap suc (views_counted offsets fs (omega (arith, e)))
 
-pub no_views_at : (offsets : List ℕ) (fs : List ViewFields) → fs ≡ [] → plain_views_at offsets fs ≡ []
+pub no_views_at : (offsets : List ℕ) (fs : List ViewFields) → fs ≡ [] → plain_views_fields offsets fs ≡ []
 no_views_at [] fs e = refl
 no_views_at (o ∷ offsets) [] e = refl
 no_views_at (o ∷ offsets) (f ∷ fs) e = absurd (cc)

@@ -2,15 +2,14 @@
 use Rattle.std.specs.Prelude.{if◌then◌else◌}
 use Rattle.std.proofs.Common.{◌≡◌, ℕ, Bool, true, false, true≢false, List, [], ◌∷◌, Option, Some, None, option_map, refl, sym, ap, ◌∙◌, subst}
 use Rattle.std.proofs.lemmas.Slice.Eq.{bytes_eq-Decides}
-use Rattle.gp_json.specs.Plain.{PlainTree, PlainMembers, null, truth, number, text, list, members, no_members, member, members_of}
-use Rattle.gp_json.specs.Sound.{HasDistinctKeys, MembersHaveDistinctKeys}
-use Rattle.gp_json.specs.Key.{units}
-use Rattle.gp_json.specs.Find.{PlainMember, IsObject, is_named, member_list, value_of, find_member}
-use Rattle.gp_json.specs.TreeEdits.{set_first, remove_first, change_first, with_members, with_member, without, at_member}
-use Rattle.gp_json.specs.Values.{IsName}
-use Rattle.gp_json.proofs.Firsts.{from_false, list_of}
-use Rattle.gp_json.proofs.Names.{units_of_name}
-use Rattle.gp_json.proofs.Kept.{find_set_other, find_remove_other, find_change, find_change_other}
+use Rattle.gp_tree.specs.Plain.{PlainTree, null, truth, number, text, list, members, members_of}
+use Rattle.gp_tree.specs.Key.{units}
+use Rattle.gp_tree.specs.Find.{PlainMember, IsObject, is_named, member_list, find_member}
+use Rattle.gp_tree.specs.TreeEdits.{set_first, remove_first, change_first, with_members, with_member, without, at_member}
+use Rattle.gp_tree.specs.Values.{IsName}
+use Rattle.gp_tree.proofs.Firsts.{from_false, list_of}
+use Rattle.gp_tree.proofs.Names.{units_of_name}
+use Rattle.gp_tree.proofs.Kept.{find_set_other, find_remove_other, find_change, find_change_other}
 use Rattle.gp_edits.specs.Changes.{is_emptied, emptied_by, emptied}
 
 -- ---- objects stay objects
@@ -145,25 +144,3 @@ pub emptied_found : (key : List ℕ) (change : PlainTree → PlainTree) (t : Pla
     → P (find_member key (emptied key change t))
 unfolding emptied
 emptied_found key change t P lone none some = emptied_by_found key change t P lone none some (find_member key t) refl
-
--- ---- the values of an object have distinct keys where it has
-
-distinct_step : (b : Bool) (key : List ℕ) (v : PlainTree) (m : PlainMember) (ms : List PlainMember) → is_named key m.0 ≡ b → HasDistinctKeys m.1 → (value_of key ms ≡ Some v → HasDistinctKeys v) → value_of key (m ∷ ms) ≡ Some v
-    → HasDistinctKeys v
-distinct_step true key v m ms n h more e =
-    let k : ◌≡◌ {A = Option PlainTree} (Some m.1) (Some v) = rw n at e in
-    let s : m.1 ≡ v = cc in
-    subst HasDistinctKeys s h
-distinct_step false key v m ms n h more e = let k : value_of key ms ≡ Some v = rw n at e in more k
-
-distinct_in : (key : List ℕ) (v : PlainTree) (ms : PlainMembers) → MembersHaveDistinctKeys ms → value_of key (member_list ms) ≡ Some v → HasDistinctKeys v
-distinct_in key v no_members h e = absurd (cc)
-distinct_in key v (member k t ms) h e = distinct_step (is_named key k) key v (k, t) (member_list ms) refl h.0 (distinct_in key v ms h.1) e
-
-pub value_distinct : (key : List ℕ) (v t : PlainTree) → HasDistinctKeys t → find_member key t ≡ Some v → HasDistinctKeys v
-value_distinct key v null h e = absurd (cc)
-value_distinct key v (truth b) h e = absurd (cc)
-value_distinct key v (number s) h e = absurd (cc)
-value_distinct key v (text s) h e = absurd (cc)
-value_distinct key v (list ts) h e = absurd (cc)
-value_distinct key v (members ms) h e = distinct_in key v ms h.1 e

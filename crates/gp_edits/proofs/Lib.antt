@@ -26,4 +26,5 @@ pub mod PackCommon
 pub mod PackSounds
 pub mod OneMore
 pub mod Own
+pub mod Unchanged
 mod Examples

@@ -2,9 +2,9 @@
 use Rattle.std.specs.Prelude.{codes, decimal}
 use Rattle.std.specs.Str.{chars}
 use Rattle.std.proofs.Common.{◌≡◌, ℕ, true, List, refl, ap, ◌∙◌}
-use Rattle.gp_json.specs.Plain.{PlainTree, truth, number, text, members, no_members}
-use Rattle.gp_json.specs.TreeEdits.{with_member}
-use Rattle.gp_asset.specs.Kinds.{mode_name}
+use Rattle.gp_tree.specs.Plain.{PlainTree, truth, number, text, members, no_members}
+use Rattle.gp_tree.specs.TreeEdits.{with_member}
+use Rattle.gp_rules.specs.Kinds.{mode_name}
 use Rattle.gp_edits.specs.Edits.{extension_name, compression_object, sized_buffer, fallback_buffer}
 use Rattle.gp_edits.specs.declared.compression.Compression.{Compression}
 

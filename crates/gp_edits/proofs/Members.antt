@@ -3,13 +3,13 @@ use Rattle.std.specs.Prelude.{if◌then◌else◌}
 use Rattle.std.proofs.Common.{◌≡◌, ℕ, suc, ◌<◌, Bool, true, false, List, [], ◌∷◌, length, map, Option, Some, None, slice_index_or, refl, sym, ap, ◌∙◌, subst, arith}
 use Rattle.std.specs.Str.{bytes_eq}
 use Rattle.std.proofs.lemmas.Slice.Eq.{bytes_eq-Decides}
-use Rattle.gp_json.specs.Plain.{PlainTree, null, truth, number, text, list, members, members_of}
-use Rattle.gp_json.specs.Key.{units}
-use Rattle.gp_json.specs.Sound.{keys, AreDistinct, HasDistinctKeys}
-use Rattle.gp_json.specs.Find.{PlainMember, is_named, member_list, object_members, value_of, find_member}
-use Rattle.gp_json.specs.TreeEdits.{set_first, remove_first, change_first, with_members, with_member, without, at_member}
-use Rattle.gp_json.proofs.Firsts.{from_false, list_of}
-use Rattle.gp_json.proofs.Inner.{members_back}
+use Rattle.gp_tree.specs.Plain.{PlainTree, null, truth, number, text, list, members, members_of}
+use Rattle.gp_tree.specs.Key.{units}
+use Rattle.gp_tree.specs.Sound.{keys, AreDistinct, HasDistinctKeys}
+use Rattle.gp_tree.specs.Find.{PlainMember, is_named, member_list, object_members, value_of, find_member}
+use Rattle.gp_tree.specs.TreeEdits.{set_first, remove_first, change_first, with_members, with_member, without, at_member}
+use Rattle.gp_tree.proofs.Firsts.{from_false, list_of}
+use Rattle.gp_tree.proofs.Inner.{members_back}
 
 -- ---- names
 
@@ -274,7 +274,7 @@ pub made_so : (k : List ℕ) (g : PlainTree → Option PlainTree) (f : PlainTree
     → g v ≡ Some (f v) → alter k g t ≡ at_member k f t
 made_so k g f v t found e = agree k g (made f) t (λ w h. ap g (same_value k t w v h found) ∙ e ∙ ap (λ u. Some (f u)) (same_value k t v w found h)) ∙ sym (changed_is k f t)
 
--- ---- the calls of gp_json
+-- ---- the calls of gp_tree
 
 -- what is set or changed is removed with the member
 pub set_then_removed : (k : List ℕ) (v : PlainTree) → IsOwn k → (t : PlainTree) → without k (with_member k v t) ≡ without k t

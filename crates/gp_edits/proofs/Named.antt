@@ -3,22 +3,21 @@ use Rattle.std.specs.Prelude.{if◌then◌else◌, codes}
 use Rattle.std.specs.List.{list_any, filter_map, cons_option}
 use Rattle.std.proofs.Common.{◌≡◌, ℕ, Bool, true, false, not, ◌||◌, cond, List, [], ◌∷◌, ◌++◌, map, filter, Option, Some, None, Ok, refl, sym, ap, ◌∙◌, subst}
 use Rattle.std.proofs.lemmas.List.Folds.{list_any-append}
-use Rattle.gp_json.specs.Plain.{PlainTree, PlainTrees, null, truth, number, text, list, members, no_items, item, trees_of, members_of}
-use Rattle.gp_json.specs.Sound.{HasDistinctKeys}
-use Rattle.gp_json.specs.Find.{PlainMember, is_named, item_list, member_list, array_items, object_members, find_member}
-use Rattle.gp_json.specs.Anywhere.{own_keys, keys_under, items_keys_under, members_keys_under}
-use Rattle.gp_json.specs.TreeEdits.{set_first, with_member, without, at_member, with_items}
-use Rattle.gp_json.proofs.Firsts.{list_of}
-use Rattle.gp_json.proofs.Inner.{members_back, trees_back}
-use Rattle.gp_json.proofs.Edited.{items_of}
+use Rattle.gp_tree.specs.Plain.{PlainTree, PlainTrees, null, truth, number, text, list, members, no_items, item, trees_of, members_of}
+use Rattle.gp_tree.specs.Sound.{HasDistinctKeys}
+use Rattle.gp_tree.specs.Find.{PlainMember, is_named, item_list, member_list, array_items, object_members, find_member}
+use Rattle.gp_tree.specs.Anywhere.{own_keys, keys_under, items_keys_under, members_keys_under}
+use Rattle.gp_tree.specs.TreeEdits.{set_first, with_member, without, at_member, with_items}
+use Rattle.gp_tree.proofs.Firsts.{list_of}
+use Rattle.gp_tree.proofs.Inner.{members_back, trees_back}
+use Rattle.gp_tree.proofs.Edited.{items_of}
 use Rattle.gp_fields.specs.Shapes.{a_text}
-use Rattle.gp_asset.specs.declared.fault.Form.TheVariants.{Any}
-use Rattle.gp_asset.specs.declared.fault.AssetFault.TheVariants.{Foreign}
-use Rattle.gp_asset.specs.Checks.{Checked, unless}
+use Rattle.gp_asset.specs.declared.purpose.Form.TheVariants.{Any}
+use Rattle.gp_rules.specs.declared.fault.AssetFault.TheVariants.{Foreign}
+use Rattle.gp_rules.specs.Checks.{Checked, unless}
 use Rattle.gp_asset.specs.Extensions.{texts_in, listed, extensions_in_use, is_among, supported}
 use Rattle.gp_edits.specs.Changes.{whole_number, is_emptied, is_text_named, without_text, change_each}
-use Rattle.gp_edits.specs.Edits.{extension_name, placed, without_compression, sized_buffer, with_one_buffer, without_extension_named}
-use Rattle.gp_edits.specs.Laws.{plain_view_at, with_plain_views_at}
+use Rattle.gp_edits.specs.Edits.{plain_view, with_plain_views, extension_name, placed, without_compression, sized_buffer, with_one_buffer, without_extension_named}
 use Rattle.gp_edits.specs.NameLaws.{UsesNoMore}
 use Rattle.gp_edits.proofs.Members.{IsOwn, IsApart, HasOnce, names_apart, put, alter_first, alter, gone, made, after, once, once_kept, once_removed, once_changed, removed_is, changed_is, find_kept, find_set_kept, find_altered}
 use Rattle.gp_edits.proofs.Emptied.{unless_emptied, emptied_is}
@@ -350,19 +349,19 @@ views_no_more change values t h =
     subst (λ u. AreAmong (extensions_in_use u) (extensions_in_use t)) (sym (changed_is views_key f t))
     (altered_in_use views_key (made f) t (names_apart used_key views_key refl) (names_apart required_key views_key refl) (list_no_more change values h))
 
-plain_views_no_more : (starts : List ℕ) (t : PlainTree) → AreAmong (extensions_in_use (with_plain_views_at starts t)) (extensions_in_use t)
-plain_views_no_more starts t = views_no_more plain_view_at starts t (λ start v q h. uncompressed_no_more v q (placed_no_more 0 start (without_compression v) q h))
+plain_views_no_more : (starts : List ℕ) (t : PlainTree) → AreAmong (extensions_in_use (with_plain_views starts t)) (extensions_in_use t)
+plain_views_no_more starts t = views_no_more plain_view starts t (λ start v q h. uncompressed_no_more v q (placed_no_more 0 start (without_compression v) q h))
 
 -- ---- all of them
 
 once_viewed : (key : List ℕ) (starts : List ℕ) (t : PlainTree) → IsApart key views_key → HasDistinctKeys t
-    → HasOnce key (with_plain_views_at starts t)
-once_viewed key starts t apart h = once_changed key views_key (with_items (change_each plain_view_at starts)) t apart (once key t h)
+    → HasOnce key (with_plain_views starts t)
+once_viewed key starts t apart h = once_changed key views_key (with_items (change_each plain_view starts)) t apart (once key t h)
 
 pub with_buffer_no_more : (length : ℕ) (starts : List ℕ) (t : PlainTree) → HasDistinctKeys t
-    → AreAmong (extensions_in_use (without_extension_named (with_one_buffer length (with_plain_views_at starts t)))) (extensions_in_use t)
+    → AreAmong (extensions_in_use (without_extension_named (with_one_buffer length (with_plain_views starts t)))) (extensions_in_use t)
 with_buffer_no_more length starts t h q e =
-    let u = with_plain_views_at starts t in
+    let u = with_plain_views starts t in
     plain_views_no_more starts t q
     (buffer_no_more length u q
     (names_out_no_more (with_one_buffer length u)
@@ -371,9 +370,9 @@ with_buffer_no_more length starts t h q e =
     q e))
 
 pub without_buffers_no_more : (starts : List ℕ) (t : PlainTree) → HasDistinctKeys t
-    → AreAmong (extensions_in_use (without_extension_named (without buffers_key (with_plain_views_at starts t)))) (extensions_in_use t)
+    → AreAmong (extensions_in_use (without_extension_named (without buffers_key (with_plain_views starts t)))) (extensions_in_use t)
 without_buffers_no_more starts t h q e =
-    let u = with_plain_views_at starts t in
+    let u = with_plain_views starts t in
     plain_views_no_more starts t q
     (buffers_no_more u q
     (names_out_no_more (without buffers_key u)

@@ -1,8 +1,8 @@
 -- The lists of extensions without a name are lists of texts, and the root keeps its other members.
 use Rattle.std.specs.Prelude.{not, is_ok, codes, IsOk}
 use Rattle.std.proofs.Common.{◌≡◌, ℕ, List, Some, Result, Ok, Err, refl, sym, ap, ◌∙◌, subst}
-use Rattle.gp_json.specs.Plain.{PlainTree, null, truth, number, text, list, members}
-use Rattle.gp_json.specs.Find.{IsObject, item_list, find_member}
+use Rattle.gp_tree.specs.Plain.{PlainTree, null, truth, number, text, list, members}
+use Rattle.gp_tree.specs.Find.{IsObject, item_list, find_member}
 use Rattle.gp_fields.specs.declared.fault.Place.{Place}
 use Rattle.gp_fields.specs.declared.fault.Place.TheVariants.{ExtensionsUsed, ExtensionsRequired}
 use Rattle.gp_fields.specs.declared.fault.FieldFault.{FieldFault}

@@ -4,19 +4,19 @@ use Rattle.std.specs.Str.{chars}
 use Rattle.std.specs.List.{list_any, filter_map, cons_option}
 use Rattle.std.proofs.Common.{◌≡◌, ℕ, Bool, true, false, ◌||◌, ◌&&◌, cond, List, [], ◌∷◌, ◌++◌, Option, Some, None, option_map, Ok, refl, sym, ap, ◌∙◌, subst}
 use Rattle.std.proofs.lemmas.List.Folds.{list_any-append}
-use Rattle.gp_json.specs.Plain.{PlainTree, PlainTrees, null, truth, number, text, list, members, no_items, item, no_members, trees_of}
-use Rattle.gp_json.specs.Find.{PlainMember, is_named, item_list, member_list, object_members, find_member}
-use Rattle.gp_json.specs.Anywhere.{own_keys, members_keys_under}
-use Rattle.gp_json.specs.Values.{IsName}
-use Rattle.gp_json.specs.TreeEdits.{set_first, change_first, with_member, at_member, with_items}
-use Rattle.gp_json.proofs.Firsts.{list_of}
-use Rattle.gp_json.proofs.Inner.{members_back, trees_back}
-use Rattle.gp_json.proofs.Edited.{items_of}
-use Rattle.gp_json.proofs.Kept.{find_set, find_change}
+use Rattle.gp_tree.specs.Plain.{PlainTree, PlainTrees, null, truth, number, text, list, members, no_items, item, no_members, trees_of}
+use Rattle.gp_tree.specs.Find.{PlainMember, is_named, item_list, member_list, object_members, find_member}
+use Rattle.gp_tree.specs.Anywhere.{own_keys, members_keys_under}
+use Rattle.gp_tree.specs.Values.{IsName}
+use Rattle.gp_tree.specs.TreeEdits.{set_first, change_first, with_member, at_member, with_items}
+use Rattle.gp_tree.proofs.Firsts.{list_of}
+use Rattle.gp_tree.proofs.Inner.{members_back, trees_back}
+use Rattle.gp_tree.proofs.Edited.{items_of}
+use Rattle.gp_tree.proofs.Kept.{find_set, find_change}
 use Rattle.gp_fields.specs.Shapes.{a_text}
-use Rattle.gp_asset.specs.declared.fault.Form.TheVariants.{Plain, Any}
-use Rattle.gp_asset.specs.declared.fault.AssetFault.TheVariants.{AlreadyPacked, Foreign}
-use Rattle.gp_asset.specs.Checks.{Checked, unless}
+use Rattle.gp_asset.specs.declared.purpose.Form.TheVariants.{Plain, Any}
+use Rattle.gp_rules.specs.declared.fault.AssetFault.TheVariants.{AlreadyPacked, Foreign}
+use Rattle.gp_rules.specs.Checks.{Checked, unless}
 use Rattle.gp_asset.specs.Extensions.{texts_in, listed, extensions_in_use, is_among, supported}
 use Rattle.gp_edits.specs.Changes.{change_each}
 use Rattle.gp_edits.specs.Edits.{extension_name, compression_object, compressed, with_two_buffers, with_extension_named}

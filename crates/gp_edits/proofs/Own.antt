@@ -1,14 +1,14 @@
 -- Each edit changes its own members alone.
 use Rattle.std.specs.Prelude.{if◌then◌else◌, unwrap_or}
 use Rattle.std.proofs.Common.{◌≡◌, ℕ, Bool, true, false, not, ◌||◌, ◌&&◌, List, [], ◌∷◌, ◌++◌, filter, Option, Some, None, refl, sym, ap, ◌∙◌, subst}
-use Rattle.gp_json.specs.Plain.{PlainTree, null, truth, number, text, list, members, no_items, item, no_members, member}
-use Rattle.gp_json.specs.Sound.{HasDistinctKeys}
-use Rattle.gp_json.specs.Find.{PlainMember, IsObject, is_named, item_list, member_list, find_member}
-use Rattle.gp_json.specs.Values.{IsName}
-use Rattle.gp_json.specs.TreeEdits.{set_first, with_members, with_member, without, and_items}
-use Rattle.gp_json.proofs.Edited.{items_of}
-use Rattle.gp_json.proofs.Firsts.{list_of}
-use Rattle.gp_json.proofs.Kept.{find_set}
+use Rattle.gp_tree.specs.Plain.{PlainTree, null, truth, number, text, list, members, no_items, item, no_members, member}
+use Rattle.gp_tree.specs.Sound.{HasDistinctKeys}
+use Rattle.gp_tree.specs.Find.{PlainMember, IsObject, is_named, item_list, member_list, find_member}
+use Rattle.gp_tree.specs.Values.{IsName}
+use Rattle.gp_tree.specs.TreeEdits.{set_first, with_members, with_member, without, and_items}
+use Rattle.gp_tree.proofs.Edited.{items_of}
+use Rattle.gp_tree.proofs.Firsts.{list_of}
+use Rattle.gp_tree.proofs.Kept.{find_set}
 use Rattle.gp_edits.specs.declared.compression.Compression.{Compression}
 use Rattle.gp_edits.specs.Changes.{whole_number, is_empty, is_emptied, is_text_named, without_text}
 use Rattle.gp_edits.specs.Edits.{extension_name, placed, without_compression, compression_object, compressed, sized_buffer, with_one_buffer, fallback_buffer, with_two_buffers, with_name_in, with_extension_named, without_extension_named}
@@ -81,7 +81,7 @@ with_others names f (text s) h = refl
 with_others names f (list ts) h = refl
 with_others names f (members ms) h = ap (left names) (list_of (f (member_list ms))) ∙ h (member_list ms)
 
-no_object : (f : List PlainMember → List PlainMember) (t : PlainTree) → (IsObject t → ⊥) → with_members f t ≡ t
+pub no_object : (f : List PlainMember → List PlainMember) (t : PlainTree) → (IsObject t → ⊥) → with_members f t ≡ t
 no_object f null n = refl
 no_object f (truth b) n = refl
 no_object f (number s) n = refl

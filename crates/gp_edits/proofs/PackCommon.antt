@@ -1,10 +1,10 @@
 -- What an asset has in common with the one that it was, where a view is compressed, a second buffer is there or the extension is named.
 use Rattle.std.proofs.Common.{◌≡◌, ℕ, not, List, [], ◌∷◌, ◌++◌, filter, refl, sym, ap, ◌∙◌}
-use Rattle.gp_json.specs.Plain.{PlainTree, null, truth, number, text, list, members, no_items, item, no_members, trees_of}
-use Rattle.gp_json.specs.Sound.{HasDistinctKeys}
-use Rattle.gp_json.specs.Find.{item_list}
-use Rattle.gp_json.specs.TreeEdits.{with_member, without, at_member}
-use Rattle.gp_json.proofs.Edited.{items_of}
+use Rattle.gp_tree.specs.Plain.{PlainTree, null, truth, number, text, list, members, no_items, item, no_members, trees_of}
+use Rattle.gp_tree.specs.Sound.{HasDistinctKeys}
+use Rattle.gp_tree.specs.Find.{item_list}
+use Rattle.gp_tree.specs.TreeEdits.{with_member, without, at_member}
+use Rattle.gp_tree.proofs.Edited.{items_of}
 use Rattle.gp_edits.specs.Changes.{whole_number, is_text_named, without_text}
 use Rattle.gp_edits.specs.Edits.{extension_name, placed, sized_buffer, fallback_buffer, compression_object, compressed, with_two_buffers, with_extension_named}
 use Rattle.gp_edits.specs.Common.{common_view, common_names, common}

@@ -1,19 +1,19 @@
 -- A tree stays sound where a view is compressed, a second buffer is there or the extension is named.
 use Rattle.std.specs.Prelude.{unwrap_or, codes}
 use Rattle.std.proofs.Common.{◌≡◌, ℕ, zero, suc, ◌<◌, ◌≤◌, ◌^◌, true, List, Option, Some, None, refl, sym, ap, subst, arith}
-use Rattle.gp_json.specs.Plain.{PlainTree, null, truth, number, text, list, members, no_items, item, no_members, trees_of}
-use Rattle.gp_json.specs.Values.{IsName}
-use Rattle.gp_json.specs.Sound.{IsSound, items_depth, depth}
-use Rattle.gp_json.specs.Find.{item_list, find_member}
-use Rattle.gp_json.specs.TreeEdits.{with_member}
-use Rattle.gp_json.specs.Laws.{Fits}
-use Rattle.gp_json.proofs.Inner.{trees_back}
-use Rattle.gp_json.proofs.Names.{name_string}
-use Rattle.gp_json.proofs.Kept.{sound_set, sound_append, depth_append}
-use Rattle.gp_json.proofs.Parts.{set_depth}
-use Rattle.gp_asset.specs.declared.storage.StreamMode.{StreamMode}
-use Rattle.gp_asset.specs.declared.storage.StreamMode.TheVariants.{Attributes, Triangles, Indices}
-use Rattle.gp_asset.specs.Kinds.{mode_name}
+use Rattle.gp_tree.specs.Plain.{PlainTree, null, truth, number, text, list, members, no_items, item, no_members, trees_of}
+use Rattle.gp_tree.specs.Values.{IsName}
+use Rattle.gp_tree.specs.Sound.{IsSound, items_depth, depth}
+use Rattle.gp_tree.specs.Find.{item_list, find_member}
+use Rattle.gp_tree.specs.TreeEdits.{with_member}
+use Rattle.gp_tree.specs.Laws.{Fits}
+use Rattle.gp_tree.proofs.Inner.{trees_back}
+use Rattle.gp_tree.proofs.Names.{name_string}
+use Rattle.gp_tree.proofs.Kept.{sound_set, sound_append, depth_append}
+use Rattle.gp_tree.proofs.Parts.{set_depth}
+use Rattle.gp_rules.specs.declared.storage.StreamMode.{StreamMode}
+use Rattle.gp_rules.specs.declared.storage.StreamMode.TheVariants.{Attributes, Triangles, Indices}
+use Rattle.gp_rules.specs.Kinds.{mode_name}
 use Rattle.gp_edits.specs.Changes.{whole_number}
 use Rattle.gp_edits.specs.Edits.{extension_name, placed, compression_object, compressed, sized_buffer, fallback_buffer, with_two_buffers, with_extension_named}
 use Rattle.gp_edits.specs.PackLaws.{HasSmallNumbers}

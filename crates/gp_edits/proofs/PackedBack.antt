@@ -2,14 +2,14 @@
 use Rattle.std.specs.Prelude.{codes, option_map, option_and_then, unwrap_or}
 use Rattle.std.specs.Str.{chars}
 use Rattle.std.proofs.Common.{◌≡◌, ℕ, ◌<◌, ◌^◌, true, map, Option, Some, None, refl, sym, ap, ◌∙◌, arith}
-use Rattle.gp_json.specs.Plain.{PlainTree, null, truth, number, text, list, members, no_members, member}
-use Rattle.gp_json.specs.Values.{whole, IsName}
-use Rattle.gp_json.specs.Find.{IsObject, object_members, find_member}
-use Rattle.gp_json.specs.TreeEdits.{set_first, with_member}
-use Rattle.gp_json.proofs.Kept.{find_set, find_set_other}
+use Rattle.gp_tree.specs.Plain.{PlainTree, null, truth, number, text, list, members, no_members, member}
+use Rattle.gp_tree.specs.Values.{whole, IsName}
+use Rattle.gp_tree.specs.Find.{IsObject, object_members, find_member}
+use Rattle.gp_tree.specs.TreeEdits.{set_first, with_member}
+use Rattle.gp_tree.proofs.Kept.{find_set, find_set_other}
 use Rattle.gp_fields.specs.Shapes.{Shaped, object_of, an_object, a_text, reference, required, optional, defaulted}
 use Rattle.gp_fields.specs.Fields.{ViewFields, PackedFields, buffer_fields, view_fields, packed_fields, packed_of, key_of, empty_object}
-use Rattle.gp_asset.specs.Kinds.{mode_name}
+use Rattle.gp_rules.specs.Kinds.{mode_name}
 use Rattle.gp_edits.specs.declared.compression.Compression.{Compression}
 use Rattle.gp_edits.specs.Changes.{whole_number}
 use Rattle.gp_edits.specs.Edits.{extension_name, placed, compressed, compression_object, fallback_buffer}

@@ -1,11 +1,11 @@
 -- The lists of extensions with a name more are lists of texts, and the root keeps its other members.
 use Rattle.std.specs.Prelude.{is_ok, codes, IsOk, unwrap_or}
 use Rattle.std.proofs.Common.{◌≡◌, ℕ, List, [], ◌∷◌, ◌++◌, Option, Some, None, Result, Ok, Err, refl, sym, ap, ◌∙◌, subst}
-use Rattle.gp_json.specs.Plain.{PlainTree, null, truth, number, text, list, members, no_items}
-use Rattle.gp_json.specs.Values.{IsName}
-use Rattle.gp_json.specs.Find.{IsObject, item_list, find_member}
-use Rattle.gp_json.specs.TreeEdits.{set_first, and_items}
-use Rattle.gp_json.proofs.Kept.{find_set, find_set_other}
+use Rattle.gp_tree.specs.Plain.{PlainTree, null, truth, number, text, list, members, no_items}
+use Rattle.gp_tree.specs.Values.{IsName}
+use Rattle.gp_tree.specs.Find.{IsObject, item_list, find_member}
+use Rattle.gp_tree.specs.TreeEdits.{set_first, and_items}
+use Rattle.gp_tree.proofs.Kept.{find_set, find_set_other}
 use Rattle.gp_fields.specs.declared.fault.Place.{Place}
 use Rattle.gp_fields.specs.declared.fault.Place.TheVariants.{ExtensionsUsed, ExtensionsRequired}
 use Rattle.gp_fields.specs.declared.fault.FieldFault.{FieldFault}

@@ -1,21 +1,22 @@
 -- The fields of an asset read back after the edits of unpacking.
 use Rattle.std.specs.Prelude.{codes, option_map, IsOk}
 use Rattle.std.proofs.Common.{◌≡◌, ℕ, ◌<◌, ◌^◌, List, [], ◌∷◌, length, Option, Some, None, Result, Ok, refl, sym, ap, ◌∙◌, subst, arith}
-use Rattle.gp_json.specs.Plain.{PlainTree, list, no_items, item}
-use Rattle.gp_json.specs.Sound.{HasDistinctKeys}
-use Rattle.gp_json.specs.Values.{IsName}
-use Rattle.gp_json.specs.Find.{IsObject, find_member}
-use Rattle.gp_json.specs.TreeEdits.{set_first, remove_first, change_first, without, at_member}
-use Rattle.gp_json.proofs.Kept.{find_set, find_set_other, find_remove_other, find_removed, find_change, find_change_other}
+use Rattle.gp_tree.specs.Plain.{PlainTree, list, no_items, item}
+use Rattle.gp_tree.specs.Sound.{HasDistinctKeys}
+use Rattle.gp_tree.specs.Values.{IsName}
+use Rattle.gp_tree.specs.Find.{IsObject, find_member}
+use Rattle.gp_tree.specs.TreeEdits.{set_first, remove_first, change_first, without, at_member}
+use Rattle.gp_tree.proofs.Kept.{find_set, find_set_other, find_remove_other, find_removed, find_change, find_change_other}
 use Rattle.gp_fields.specs.declared.fault.Place.TheVariants.{ExtensionsUsed, ExtensionsRequired, Buffers, BufferViews}
 use Rattle.gp_fields.specs.declared.fault.FieldFault.{FieldFault}
 use Rattle.gp_fields.specs.Shapes.{object_of, a_text}
 use Rattle.gp_fields.specs.Fields.{BufferFields, ViewFields, buffer_fields, view_fields}
 use Rattle.gp_fields.specs.Record.{AssetFields, items_of_member, asset_fields}
 use Rattle.gp_edits.specs.Edits.{sized_buffer, with_one_buffer, without_extension_named}
-use Rattle.gp_edits.specs.ReadingBack.{buffer_of_length, with_views_at, plain_views_at, FitsEach, fields_with, plain_in_one, plain_in_none}
+use Rattle.gp_edits.specs.ReadingBack.{buffer_of_length, with_views_at, plain_views_fields, FitsEach, fields_with, plain_in_one, plain_in_none}
 use Rattle.gp_edits.proofs.FieldsBack.{a_name, apart}
-use Rattle.gp_edits.proofs.KeysBack.{IsLone, object_after, lone_set, lone_remove, lone_change, value_distinct}
+use Rattle.gp_edits.proofs.Emptied.{value_distinct}
+use Rattle.gp_edits.proofs.KeysBack.{IsLone, object_after, lone_set, lone_remove, lone_change}
 use Rattle.gp_edits.proofs.ViewsBack.{buffer_again}
 use Rattle.gp_edits.proofs.ItemsBack.{read_items, views_again, views_counted, no_views_at, items_by, items_are, items_same}
 use Rattle.gp_edits.proofs.NamesBack.{used_again, required_again, named_other, named_object}
@@ -24,7 +25,7 @@ use Rattle.gp_edits.proofs.AssetsBack.{asset_parts, asset_with}
 -- ---- the views of a root
 
 views_by : (n m : ℕ) (offsets : List ℕ) (fs : List ViewFields) (found : Option PlainTree) → ((v : PlainTree) → found ≡ Some v → HasDistinctKeys v) → items_by BufferViews (object_of (view_fields n)) found ≡ Ok fs
-    → length offsets ≡ length fs → (0 < length fs → 0 < m) → FitsEach offsets → items_by BufferViews (object_of (view_fields m)) (option_map (with_views_at offsets) found) ≡ Ok (plain_views_at offsets fs)
+    → length offsets ≡ length fs → (0 < length fs → 0 < m) → FitsEach offsets → items_by BufferViews (object_of (view_fields m)) (option_map (with_views_at offsets) found) ≡ Ok (plain_views_fields offsets fs)
 views_by n m offsets fs None keys h e some low =
     let h' : ◌≡◌ {A = Result (List ViewFields) FieldFault} (Ok []) (Ok fs) = h in
     let none : [] ≡ fs = cc in
@@ -34,7 +35,7 @@ views_by n m offsets fs (Some v) keys h e some low = views_again n m offsets v f
 -- as they were placed
 placed_views : (n m : ℕ) (offsets : List ℕ) (t u : PlainTree) (fs : List ViewFields) → HasDistinctKeys t → find_member (codes "bufferViews") u ≡ option_map (with_views_at offsets) (find_member (codes "bufferViews") t)
     → items_of_member BufferViews (codes "bufferViews") (object_of (view_fields n)) t ≡ Ok fs → length offsets ≡ length fs → (0 < length fs → 0 < m) → FitsEach offsets
-    → items_of_member BufferViews (codes "bufferViews") (object_of (view_fields m)) u ≡ Ok (plain_views_at offsets fs)
+    → items_of_member BufferViews (codes "bufferViews") (object_of (view_fields m)) u ≡ Ok (plain_views_fields offsets fs)
 placed_views n m offsets t u fs keys e h count some low =
     let name = codes "bufferViews" in
     let found = find_member name t in
@@ -57,11 +58,11 @@ other_again name offsets t u h used required buffers views = named_other name u 
 
 placed_again : (offsets : List ℕ) (t u : PlainTree) (f : AssetFields) (buffers : List BufferFields) → HasDistinctKeys t → asset_fields t ≡ Ok f → ArePlaced offsets t u
     → items_of_member Buffers (codes "buffers") (object_of buffer_fields) u ≡ Ok buffers → length offsets ≡ length f.views → (0 < length f.views → 0 < length buffers) → FitsEach offsets
-    → asset_fields (without_extension_named u) ≡ Ok (fields_with buffers (plain_views_at offsets f.views) f)
+    → asset_fields (without_extension_named u) ≡ Ok (fields_with buffers (plain_views_fields offsets f.views) f)
 placed_again offsets t u f buffers keys e h bs count some low =
     let a = asset_parts t f e in
     let w = without_extension_named u in
-    asset_with t w f buffers (plain_views_at offsets f.views) a (named_object u h.object)
+    asset_with t w f buffers (plain_views_fields offsets f.views) a (named_object u h.object)
     (used_again u (h.lone (codes "extensionsUsed") (apart _ _ refl) (apart _ _ refl))
     (subst IsOk (sym (items_same ExtensionsUsed (codes "extensionsUsed") a_text t u (h.others (codes "extensionsUsed") (apart _ _ refl) (apart _ _ refl)))) a.used))
     (required_again u (h.lone (codes "extensionsRequired") (apart _ _ refl) (apart _ _ refl))
@@ -117,7 +118,7 @@ one_placed n offsets t o keys =
 
 pub one_again : (n : ℕ) (offsets : List ℕ) (t : PlainTree) (f : AssetFields)
     → HasDistinctKeys t → asset_fields t ≡ Ok f → n < 2 ^ 32 → length offsets ≡ length f.views → FitsEach offsets
-    → asset_fields (plain_in_one n offsets t) ≡ Ok (fields_with (buffer_of_length n ∷ []) (plain_views_at offsets f.views) f)
+    → asset_fields (plain_in_one n offsets t) ≡ Ok (fields_with (buffer_of_length n ∷ []) (plain_views_fields offsets f.views) f)
 unfolding with_one_buffer
 one_again n offsets t f keys e small count low =
     let o = (asset_parts t f e).object in

@@ -2,20 +2,19 @@
 use Rattle.std.specs.Prelude.{if◌then◌else◌}
 use Rattle.std.proofs.Common.{◌≡◌, ℕ, ◌+◌, ◌<◌, ◌≤◌, ◌^◌, Bool, true, false, not, ◌&&◌, nat_lt, ◌==◌, List, [], ◌∷◌, Option, Some, None, filter, refl, sym, subst, arith}
 use Rattle.std.proofs.lemmas.Bool.Decides.{nat_tests}
-use Rattle.gp_json.specs.Plain.{PlainTree, PlainTrees, null, truth, number, text, list, members, no_items, item, no_members, trees_of}
-use Rattle.gp_json.specs.Lexical.{Each}
-use Rattle.gp_json.specs.Values.{IsName, IsNameByte}
-use Rattle.gp_json.specs.Sound.{IsSound, AreItemsSpelled, ItemsHaveDistinctKeys, depth, items_depth}
-use Rattle.gp_json.specs.Find.{item_list, find_member}
-use Rattle.gp_json.specs.TreeEdits.{with_member, without, at_member, with_items}
-use Rattle.gp_json.specs.Laws.{Fits}
-use Rattle.gp_json.proofs.Wholes.{decimal_number}
-use Rattle.gp_json.proofs.Inner.{trees_back}
-use Rattle.gp_json.proofs.Kept.{sound_set, sound_remove, sound_append}
-use Rattle.gp_json.proofs.Parts.{value_sound, sound_change, change_depth, set_depth, removed_depth}
+use Rattle.gp_tree.specs.Plain.{PlainTree, PlainTrees, null, truth, number, text, list, members, no_items, item, no_members, trees_of}
+use Rattle.gp_tree.specs.Lexical.{Each}
+use Rattle.gp_tree.specs.Values.{IsName, IsNameByte}
+use Rattle.gp_tree.specs.Sound.{IsSound, AreItemsSpelled, ItemsHaveDistinctKeys, depth, items_depth}
+use Rattle.gp_tree.specs.Find.{item_list, find_member}
+use Rattle.gp_tree.specs.TreeEdits.{with_member, without, at_member, with_items}
+use Rattle.gp_tree.specs.Laws.{Fits}
+use Rattle.gp_tree.proofs.Wholes.{decimal_number}
+use Rattle.gp_tree.proofs.Inner.{trees_back}
+use Rattle.gp_tree.proofs.Kept.{sound_set, sound_remove, sound_append}
+use Rattle.gp_tree.proofs.Parts.{value_sound, sound_change, change_depth, set_depth, removed_depth}
 use Rattle.gp_edits.specs.Changes.{whole_number, is_emptied, emptied_by, emptied, is_text_named, without_text, change_each}
-use Rattle.gp_edits.specs.Edits.{extension_name, placed, without_compression, sized_buffer, with_one_buffer, without_extension_named}
-use Rattle.gp_edits.specs.Laws.{plain_view_at, with_plain_views_at}
+use Rattle.gp_edits.specs.Edits.{plain_view, with_plain_views, extension_name, placed, without_compression, sized_buffer, with_one_buffer, without_extension_named}
 use Rattle.gp_edits.proofs.KeyNames.{extensions_key, used_key, required_key, buffers_key, views_key, buffer_key, offset_key, length_key}
 
 -- ---- names and numbers
@@ -159,9 +158,9 @@ pub views_sound : {A : Type 0} (P : A → Type 0) (change : A → PlainTree → 
 views_sound P change values t small keeps h =
     sound_change views_key (with_items (change_each change values)) t h (λ v e. views_fit P change values v small keeps (found_fits views_key t v h e))
 
-pub plain_views_sound : (starts : List ℕ) (t : PlainTree) → Each (λ a. a < 2 ^ 64) starts → IsSound t → IsSound (with_plain_views_at starts t)
+pub plain_views_sound : (starts : List ℕ) (t : PlainTree) → Each (λ a. a < 2 ^ 64) starts → IsSound t → IsSound (with_plain_views starts t)
 plain_views_sound starts t small h =
-    views_sound (λ start. start < 2 ^ 64) plain_view_at starts t small (λ start v a k. placed_within 126 0 start (without_compression v) (omega arith) a (omega arith) (uncompressed_within 126 v (omega arith) k)) h
+    views_sound (λ start. start < 2 ^ 64) plain_view starts t small (λ start v a k. placed_within 126 0 start (without_compression v) (omega arith) a (omega arith) (uncompressed_within 126 v (omega arith) k)) h
 
 pub empty_object : IsSound (members no_members)
 empty_object = record { spelled = tt; shallow = omega arith; distinct = (λ i j d l k. absurd (omega arith), tt) }
@@ -189,9 +188,9 @@ names_out_sound t h = name_out_sound required_key (emptied used_key (without_tex
 -- ---- all of them
 
 pub with_buffer_sound : (length : ℕ) (starts : List ℕ) (t : PlainTree) → length < 2 ^ 64 → Each (λ a. a < 2 ^ 64) starts → IsSound t
-    → IsSound (without_extension_named (with_one_buffer length (with_plain_views_at starts t)))
-with_buffer_sound length starts t low small h = names_out_sound (with_one_buffer length (with_plain_views_at starts t)) (buffer_sound length (with_plain_views_at starts t) low (plain_views_sound starts t small h))
+    → IsSound (without_extension_named (with_one_buffer length (with_plain_views starts t)))
+with_buffer_sound length starts t low small h = names_out_sound (with_one_buffer length (with_plain_views starts t)) (buffer_sound length (with_plain_views starts t) low (plain_views_sound starts t small h))
 
 pub without_buffers_sound : (starts : List ℕ) (t : PlainTree) → Each (λ a. a < 2 ^ 64) starts → IsSound t
-    → IsSound (without_extension_named (without buffers_key (with_plain_views_at starts t)))
-without_buffers_sound starts t small h = names_out_sound (without buffers_key (with_plain_views_at starts t)) (sound_remove buffers_key (with_plain_views_at starts t) (plain_views_sound starts t small h))
+    → IsSound (without_extension_named (without buffers_key (with_plain_views starts t)))
+without_buffers_sound starts t small h = names_out_sound (without buffers_key (with_plain_views starts t)) (sound_remove buffers_key (with_plain_views starts t) (plain_views_sound starts t small h))

@@ -1,9 +1,9 @@
 -- Taking texts out of a list.
 use Rattle.std.proofs.Common.{◌≡◌, Bool, true, false, filter, List, [], ◌∷◌, map, refl, sym, ap, ◌∙◌}
-use Rattle.gp_json.specs.declared.tree.Tree.{Tree}
-use Rattle.gp_json.specs.Plain.{PlainTree, PlainTrees, plain, plain_items, trees_of}
-use Rattle.gp_json.specs.Find.{item_list}
-use Rattle.gp_json.proofs.Edited.{items_of}
+use Rattle.gp_tree.specs.declared.tree.Tree.{Tree}
+use Rattle.gp_tree.specs.Plain.{PlainTree, PlainTrees, plain, plain_items, trees_of}
+use Rattle.gp_tree.specs.Find.{item_list}
+use Rattle.gp_tree.proofs.Edited.{items_of}
 
 filter_step : (b : Bool) (p : PlainTree → Bool) (t : Tree) (ts : List Tree) → p (plain t) ≡ b
     → map plain (filter (λ u. p (plain u)) ts) ≡ filter p (map plain ts) → map plain (filter (λ u. p (plain u)) (t ∷ ts)) ≡ filter p (map plain (t ∷ ts))

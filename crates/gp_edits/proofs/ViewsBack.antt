@@ -1,19 +1,20 @@
 -- A view and a buffer read back after edits.
 use Rattle.std.specs.Prelude.{codes, option_map, option_and_then, unwrap_or}
 use Rattle.std.proofs.Common.{◌≡◌, ℕ, ◌<◌, ◌^◌, List, Option, Some, None, refl, sym, ap, ◌∙◌, arith}
-use Rattle.gp_json.specs.Plain.{PlainTree, null, truth, number, text, list, members}
-use Rattle.gp_json.specs.Values.{whole, IsName}
-use Rattle.gp_json.specs.Sound.{HasDistinctKeys}
-use Rattle.gp_json.specs.Find.{IsObject, find_member}
-use Rattle.gp_json.specs.TreeEdits.{set_first, remove_first, with_member, without}
-use Rattle.gp_json.proofs.Kept.{find_set, find_set_other, find_removed}
+use Rattle.gp_tree.specs.Plain.{PlainTree, null, truth, number, text, list, members}
+use Rattle.gp_tree.specs.Values.{whole, IsName}
+use Rattle.gp_tree.specs.Sound.{HasDistinctKeys}
+use Rattle.gp_tree.specs.Find.{IsObject, find_member}
+use Rattle.gp_tree.specs.TreeEdits.{set_first, remove_first, with_member, without}
+use Rattle.gp_tree.proofs.Kept.{find_set, find_set_other, find_removed}
 use Rattle.gp_fields.specs.Shapes.{Shaped, object_of, an_object, a_text, reference, required, optional, defaulted}
 use Rattle.gp_fields.specs.Fields.{ViewFields, PackedFields, buffer_fields, view_fields, packed_fields, packed_of, empty_object}
 use Rattle.gp_edits.specs.Changes.{whole_number}
 use Rattle.gp_edits.specs.Edits.{placed, without_compression, extension_name, sized_buffer}
-use Rattle.gp_edits.specs.ReadingBack.{plain_view_at, view_at, buffer_of_length}
+use Rattle.gp_edits.specs.ReadingBack.{plain_view_fields, view_at, buffer_of_length}
 use Rattle.gp_edits.proofs.FieldsBack.{whole_again, reference_again, a_name, apart, required_same, required_found, read_of, optional_is, optional_same, defaulted_same}
-use Rattle.gp_edits.proofs.KeysBack.{value_distinct, object_after, emptied_object, emptied_other, emptied_found}
+use Rattle.gp_edits.proofs.Emptied.{value_distinct}
+use Rattle.gp_edits.proofs.KeysBack.{object_after, emptied_object, emptied_other, emptied_found}
 
 -- a step that gave a value
 pub and_then_some : {A B : Type 0} (f : A → Option B) (o : Option A) (b : B) → option_and_then f o ≡ Some b → (a : A) × (o ≡ Some a) × (f a ≡ Some b)
@@ -181,7 +182,7 @@ plain_packed n m v pack keys e =
 
 pub plain_again : (buffers others offset : ℕ) (v : PlainTree) (f : ViewFields)
     → HasDistinctKeys v → object_of (view_fields buffers) v ≡ Some f → 0 < others → offset < 2 ^ 32
-    → object_of (view_fields others) (placed 0 offset (without_compression v)) ≡ Some (plain_view_at offset f)
+    → object_of (view_fields others) (placed 0 offset (without_compression v)) ≡ Some (plain_view_fields offset f)
 plain_again buffers others offset v f keys e some low =
     let r = object_read (view_fields buffers) v f e in
     let p = view_parts buffers v f r.1 in

@@ -1,14 +1,14 @@
 -- The list of views, changed inside the root.
 use Rattle.std.proofs.Common.{◌≡◌, ◌↔◌, IsTrue, ℕ, Bool, true, false, List, [], ◌∷◌, Option, Some, Result, Ok, Err, OnOk, refl, sym, ap, ◌∙◌, subst}
-use Rattle.gp_json.specs.Plain.{PlainTree, null, truth, number, text, list, members, plain, plain_trees, plain_members, trees_of, members_of}
-use Rattle.gp_json.specs.Find.{PlainMember, IsList, IsObject, item_list, member_list, is_named, value_of, find_member}
-use Rattle.gp_json.specs.TreeEdits.{change_first, at_member, with_items}
-use Rattle.gp_json.specs.Lending.{put_value}
-use Rattle.gp_json.specs.declared.tree.Tree.{Tree, List as a_list, Members as an_object}
-use Rattle.gp_json.specs.declared.tree.Trees.{Trees}
-use Rattle.gp_json.specs.declared.tree.Members.{Members}
-use Rattle.gp_json.proofs.Edited.{list_is}
-use Rattle.gp_json.proofs.Inner.{value_written, members_back}
+use Rattle.gp_tree.specs.Plain.{PlainTree, null, truth, number, text, list, members, plain, plain_trees, plain_members, trees_of, members_of}
+use Rattle.gp_tree.specs.Find.{PlainMember, IsList, IsObject, item_list, member_list, is_named, value_of, find_member}
+use Rattle.gp_tree.specs.TreeEdits.{change_first, at_member, with_items}
+use Rattle.gp_tree.specs.Lending.{put_value}
+use Rattle.gp_tree.specs.declared.tree.Tree.{Tree, List as a_list, Members as an_object}
+use Rattle.gp_tree.specs.declared.tree.Trees.{Trees}
+use Rattle.gp_tree.specs.declared.tree.Members.{Members}
+use Rattle.gp_tree.proofs.Edited.{list_is}
+use Rattle.gp_tree.proofs.Inner.{value_written, members_back}
 use Rattle.gp_edits.specs.Changes.{change_each, applied, IsListIn}
 
 -- what follows of a success

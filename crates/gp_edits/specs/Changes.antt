@@ -1,8 +1,8 @@
 -- Changes of a JSON value beside those of one member or item. Each leaves the order and the spelling of all else.
 use Rattle.std.specs.Prelude.{ℕ, Bool, true, false, not, ◌&&◌, if◌then◌else◌, List, [], ◌∷◌, filter, Option, Some, None, decimal}
-use Rattle.gp_json.specs.Plain.{PlainTree, number, text, list, members, no_items, no_members}
-use Rattle.gp_json.specs.Find.{IsList, is_named, find_member}
-use Rattle.gp_json.specs.TreeEdits.{without, at_member, with_items}
+use Rattle.gp_tree.specs.Plain.{PlainTree, number, text, list, members, no_items, no_members}
+use Rattle.gp_tree.specs.Find.{IsList, is_named, find_member}
+use Rattle.gp_tree.specs.TreeEdits.{without, at_member, with_items}
 
 abbrev pub whole_number : ℕ → PlainTree
 whole_number n = number (decimal n)

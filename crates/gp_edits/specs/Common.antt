@@ -1,7 +1,7 @@
 -- What the trees of two assets have in common that differ in where their bytes are and how they are stored.
 use Rattle.std.specs.Prelude.{map, codes}
-use Rattle.gp_json.specs.Plain.{PlainTree}
-use Rattle.gp_json.specs.TreeEdits.{without, at_member, with_items}
+use Rattle.gp_tree.specs.Plain.{PlainTree}
+use Rattle.gp_tree.specs.TreeEdits.{without, at_member, with_items}
 use Rattle.gp_edits.specs.Changes.{left_out, without_text}
 use Rattle.gp_edits.specs.Edits.{extension_name}
 

@@ -1,10 +1,10 @@
 -- How an asset of glTF 2.0 says where its bytes are, and that it uses EXT_meshopt_compression.
-use Rattle.std.specs.Prelude.{ℕ, true, List, [], ◌∷◌, unwrap_or, codes}
-use Rattle.gp_json.specs.Plain.{PlainTree, truth, text, list, members, no_items, item, no_members, member}
-use Rattle.gp_json.specs.Find.{find_member}
-use Rattle.gp_json.specs.TreeEdits.{with_member, without, and_items}
-use Rattle.gp_asset.specs.Kinds.{mode_name}
-use Rattle.gp_edits.specs.Changes.{whole_number, emptied, without_text}
+use Rattle.std.specs.Prelude.{ℕ, true, List, [], ◌∷◌, Option, Some, None, unwrap_or, codes}
+use Rattle.gp_tree.specs.Plain.{PlainTree, truth, text, list, members, no_items, item, no_members, member}
+use Rattle.gp_tree.specs.Find.{find_member}
+use Rattle.gp_tree.specs.TreeEdits.{with_member, without, at_member, and_items, with_items}
+use Rattle.gp_rules.specs.Kinds.{mode_name}
+use Rattle.gp_edits.specs.Changes.{whole_number, emptied, change_each, without_text}
 use Rattle.gp_edits.specs.declared.compression.Compression.{Compression}
 
 abbrev pub extension_name : List ℕ
@@ -19,6 +19,10 @@ placed buffer offset view = with_member (codes "byteOffset") (whole_number offse
 -- without its extension object
 unfoldable pub without_compression : PlainTree → PlainTree
 without_compression view = emptied (codes "extensions") (without extension_name) view
+
+-- at its place in the first buffer, without its extension object
+abbrev pub plain_view : ℕ → PlainTree → PlainTree
+plain_view start view = placed 0 start (without_compression view)
 
 -- where its stream is in the first buffer, and what it holds
 abbrev pub compression_object : Compression → PlainTree
@@ -54,6 +58,16 @@ fallback_buffer length = members (
 -- a buffer of bytes, and one to fall back on
 unfoldable pub with_two_buffers : ℕ → ℕ → PlainTree → PlainTree
 with_two_buffers length fallback root = with_member (codes "buffers") (list (item (sized_buffer length) (item (fallback_buffer fallback) no_items))) root
+
+-- the buffers of an asset's views: none, one of this length for their bytes, or also one of another length to fall back on
+abbrev pub with_buffers_of : Option ℕ → Option ℕ → PlainTree → PlainTree
+with_buffers_of None fallback root = without (codes "buffers") root
+with_buffers_of (Some length) None root = with_one_buffer length root
+with_buffers_of (Some length) (Some fallback) root = with_two_buffers length fallback root
+
+-- each view at its place there, without its extension object
+abbrev pub with_plain_views : List ℕ → PlainTree → PlainTree
+with_plain_views starts root = at_member (codes "bufferViews") (with_items (change_each plain_view starts)) root
 
 -- the name of the extension at the end of a list, which is made where it isn't there
 abbrev pub with_name_in : List ℕ → PlainTree → PlainTree

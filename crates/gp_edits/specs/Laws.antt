@@ -1,11 +1,11 @@
 -- Laws of the edits, over the definitions alone.
 use Rattle.std.specs.Prelude.{◌≡◌, ℕ, ◌<◌, ◌^◌, List, codes}
-use Rattle.gp_json.specs.Plain.{PlainTree}
-use Rattle.gp_json.specs.Lexical.{Each}
-use Rattle.gp_json.specs.Sound.{HasDistinctKeys, IsSound}
-use Rattle.gp_json.specs.TreeEdits.{without, at_member, with_items}
+use Rattle.gp_tree.specs.Plain.{PlainTree}
+use Rattle.gp_tree.specs.Lexical.{Each}
+use Rattle.gp_tree.specs.Sound.{HasDistinctKeys, IsSound}
+use Rattle.gp_tree.specs.TreeEdits.{without, at_member, with_items}
 use Rattle.gp_edits.specs.Changes.{change_each}
-use Rattle.gp_edits.specs.Edits.{placed, without_compression, with_one_buffer, without_extension_named}
+use Rattle.gp_edits.specs.Edits.{placed, without_compression, with_plain_views, with_one_buffer, without_extension_named}
 use Rattle.gp_edits.specs.Common.{common_view, common_names, common}
 
 -- ---- what two assets have in common, before and after an edit
@@ -39,25 +39,19 @@ ViewsStayCommon =
 
 -- ---- an asset whose views were placed in one buffer, or that has none, without the extension
 
-abbrev pub plain_view_at : ℕ → PlainTree → PlainTree
-plain_view_at start view = placed 0 start (without_compression view)
-
-abbrev pub with_plain_views_at : List ℕ → PlainTree → PlainTree
-with_plain_views_at starts root = at_member (codes "bufferViews") (with_items (change_each plain_view_at starts)) root
-
 abbrev pub PlainStaysCommon : Type 0
-PlainStaysCommon = (length : ℕ) (starts : List ℕ) (t : PlainTree) → HasDistinctKeys t → common (without_extension_named (with_one_buffer length (with_plain_views_at starts t))) ≡ common t
+PlainStaysCommon = (length : ℕ) (starts : List ℕ) (t : PlainTree) → HasDistinctKeys t → common (without_extension_named (with_one_buffer length (with_plain_views starts t))) ≡ common t
 
 abbrev pub EmptyStaysCommon : Type 0
-EmptyStaysCommon = (starts : List ℕ) (t : PlainTree) → HasDistinctKeys t → common (without_extension_named (without (codes "buffers") (with_plain_views_at starts t))) ≡ common t
+EmptyStaysCommon = (starts : List ℕ) (t : PlainTree) → HasDistinctKeys t → common (without_extension_named (without (codes "buffers") (with_plain_views starts t))) ≡ common t
 
 -- and it stays sound
 abbrev pub PlainStaysSound : Type 0
 PlainStaysSound =
     (length : ℕ) (starts : List ℕ) (t : PlainTree) → length < 2 ^ 64 → Each (λ start. start < 2 ^ 64) starts → IsSound t
-    → IsSound (without_extension_named (with_one_buffer length (with_plain_views_at starts t)))
+    → IsSound (without_extension_named (with_one_buffer length (with_plain_views starts t)))
 
 abbrev pub EmptyStaysSound : Type 0
 EmptyStaysSound =
     (starts : List ℕ) (t : PlainTree) → Each (λ start. start < 2 ^ 64) starts → IsSound t
-    → IsSound (without_extension_named (without (codes "buffers") (with_plain_views_at starts t)))
+    → IsSound (without_extension_named (without (codes "buffers") (with_plain_views starts t)))

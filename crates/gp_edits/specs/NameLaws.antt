@@ -1,12 +1,11 @@
 -- Laws of the edits on the extensions that an asset uses.
 use Rattle.std.specs.Prelude.{◌≡◌, ℕ, true, List, Ok, codes}
-use Rattle.gp_json.specs.Plain.{PlainTree}
-use Rattle.gp_json.specs.Sound.{HasDistinctKeys}
-use Rattle.gp_json.specs.TreeEdits.{without}
-use Rattle.gp_asset.specs.declared.fault.Form.TheVariants.{Any}
+use Rattle.gp_tree.specs.Plain.{PlainTree}
+use Rattle.gp_tree.specs.Sound.{HasDistinctKeys}
+use Rattle.gp_tree.specs.TreeEdits.{without}
+use Rattle.gp_asset.specs.declared.purpose.Form.TheVariants.{Any}
 use Rattle.gp_asset.specs.Extensions.{extensions_in_use, is_among, supported}
-use Rattle.gp_edits.specs.Edits.{with_one_buffer, without_extension_named}
-use Rattle.gp_edits.specs.Laws.{with_plain_views_at}
+use Rattle.gp_edits.specs.Edits.{with_plain_views, with_one_buffer, without_extension_named}
 
 -- an asset uses no extension that another doesn't, and is supported where that is
 pub record UsesNoMore (u t : PlainTree) : Type 0 where
@@ -15,7 +14,7 @@ pub record UsesNoMore (u t : PlainTree) : Type 0 where
 
 -- so does one whose views were placed in one buffer, or that has none, without the extension
 abbrev pub PlainUsesNoMore : Type 0
-PlainUsesNoMore = (length : ℕ) (starts : List ℕ) (t : PlainTree) → HasDistinctKeys t → UsesNoMore (without_extension_named (with_one_buffer length (with_plain_views_at starts t))) t
+PlainUsesNoMore = (length : ℕ) (starts : List ℕ) (t : PlainTree) → HasDistinctKeys t → UsesNoMore (without_extension_named (with_one_buffer length (with_plain_views starts t))) t
 
 abbrev pub EmptyUsesNoMore : Type 0
-EmptyUsesNoMore = (starts : List ℕ) (t : PlainTree) → HasDistinctKeys t → UsesNoMore (without_extension_named (without (codes "buffers") (with_plain_views_at starts t))) t
+EmptyUsesNoMore = (starts : List ℕ) (t : PlainTree) → HasDistinctKeys t → UsesNoMore (without_extension_named (without (codes "buffers") (with_plain_views starts t))) t

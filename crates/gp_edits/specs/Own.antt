@@ -1,9 +1,9 @@
 -- Each edit changes its own members alone, of any value.
 use Rattle.std.specs.Prelude.{◌≡◌, ℕ, Bool, not, List, [], ◌∷◌, filter, Option, Some, None, codes}
 use Rattle.std.specs.List.{list_any}
-use Rattle.gp_json.specs.Plain.{PlainTree}
-use Rattle.gp_json.specs.Sound.{HasDistinctKeys}
-use Rattle.gp_json.specs.Find.{PlainMember, IsObject, is_named, array_items, object_members, find_member}
+use Rattle.gp_tree.specs.Plain.{PlainTree}
+use Rattle.gp_tree.specs.Sound.{HasDistinctKeys}
+use Rattle.gp_tree.specs.Find.{PlainMember, IsObject, IsList, is_named, array_items, object_members, find_member}
 use Rattle.gp_edits.specs.declared.compression.Compression.{Compression}
 use Rattle.gp_edits.specs.Changes.{is_text_named}
 use Rattle.gp_edits.specs.Edits.{extension_name, placed, without_compression, compressed, with_one_buffer, with_two_buffers, with_extension_named, without_extension_named}
@@ -50,6 +50,14 @@ RemovedKeepsExtensions = (v : PlainTree) → HasDistinctKeys v → other_extensi
 abbrev pub CompressedKeepsExtensions : Type 0
 CompressedKeepsExtensions = (c : Compression) (v : PlainTree) → other_extensions (compressed c v) ≡ other_extensions v
 
+-- a view whose `extensions` are no object stays as it is
+
+abbrev pub RemovedStays : Type 0
+RemovedStays = (v value : PlainTree) → find_member (codes "extensions") v ≡ Some value → (IsObject value → ⊥) → without_compression v ≡ v
+
+abbrev pub CompressedStays : Type 0
+CompressedStays = (c : Compression) (v value : PlainTree) → find_member (codes "extensions") v ≡ Some value → (IsObject value → ⊥) → compressed c v ≡ v
+
 -- ---- the root
 
 abbrev pub OneBufferChangesItsOwn : Type 0
@@ -86,3 +94,14 @@ UnnamedKeepsNames = (t : PlainTree) → HasDistinctKeys t → KeepsNames t (with
 
 abbrev pub NamedKeepsNames : Type 0
 NamedKeepsNames = (t : PlainTree) → KeepsNames t (with_extension_named t)
+
+-- a list of names that is no list stays as it is
+pub record KeepsOtherShapes (before after : PlainTree) : Type 0 where
+  pub used : (value : PlainTree) → find_member (codes "extensionsUsed") before ≡ Some value → (IsList value → ⊥) → find_member (codes "extensionsUsed") after ≡ Some value
+  pub required : (value : PlainTree) → find_member (codes "extensionsRequired") before ≡ Some value → (IsList value → ⊥) → find_member (codes "extensionsRequired") after ≡ Some value
+
+abbrev pub UnnamedStays : Type 0
+UnnamedStays = (t : PlainTree) → KeepsOtherShapes t (without_extension_named t)
+
+abbrev pub NamedStays : Type 0
+NamedStays = (t : PlainTree) → KeepsOtherShapes t (with_extension_named t)

@@ -1,10 +1,10 @@
 -- Laws of the edits that packing makes, over the definitions alone.
 use Rattle.std.specs.Prelude.{◌≡◌, ℕ, ◌<◌, ◌^◌, true, ◌||◌, List, Ok, codes}
-use Rattle.gp_json.specs.Plain.{PlainTree}
-use Rattle.gp_json.specs.Sound.{HasDistinctKeys, IsSound}
-use Rattle.gp_json.specs.Find.{is_named}
-use Rattle.gp_json.specs.Anywhere.{keys_under}
-use Rattle.gp_asset.specs.declared.fault.Form.TheVariants.{Plain, Any}
+use Rattle.gp_tree.specs.Plain.{PlainTree}
+use Rattle.gp_tree.specs.Sound.{HasDistinctKeys, IsSound}
+use Rattle.gp_tree.specs.Find.{is_named}
+use Rattle.gp_tree.specs.Anywhere.{keys_under}
+use Rattle.gp_asset.specs.declared.purpose.Form.TheVariants.{Plain, Any}
 use Rattle.gp_asset.specs.Extensions.{extensions_in_use, is_among, supported}
 use Rattle.gp_edits.specs.Edits.{extension_name, placed, compressed, with_two_buffers, with_extension_named}
 use Rattle.gp_edits.specs.Common.{common_view, common}

@@ -1,13 +1,12 @@
 -- What the fields of an asset are after the edits of `Edits` that say that a view is compressed, as they are read from its tree again.
-use Rattle.std.specs.Prelude.{◌≡◌, ℕ, ◌<◌, ◌^◌, List, [], ◌∷◌, Some, None, IsOk, codes}
-use Rattle.gp_json.specs.Plain.{PlainTree}
-use Rattle.gp_json.specs.Find.{IsObject, find_member}
-use Rattle.gp_fields.specs.declared.fault.Place.TheVariants.{ExtensionsUsed, ExtensionsRequired}
-use Rattle.gp_fields.specs.Shapes.{object_of, a_text}
+use Rattle.std.specs.Prelude.{◌≡◌, ℕ, ◌<◌, ◌^◌, [], ◌∷◌, Some, None, codes}
+use Rattle.gp_tree.specs.Plain.{PlainTree}
+use Rattle.gp_tree.specs.Find.{IsObject}
+use Rattle.gp_fields.specs.Shapes.{object_of}
 use Rattle.gp_fields.specs.Fields.{BufferFields, ViewFields, PackedFields, buffer_fields, view_fields}
-use Rattle.gp_fields.specs.Record.{items_of_member}
-use Rattle.gp_asset.specs.Kinds.{mode_name}
+use Rattle.gp_rules.specs.Kinds.{mode_name}
 use Rattle.gp_edits.specs.declared.compression.Compression.{Compression}
+use Rattle.gp_edits.specs.ReadingBack.{StaysListsOfNames, KeepsOthers}
 use Rattle.gp_edits.specs.Edits.{extension_name, placed, compressed, fallback_buffer, with_extension_named}
 
 -- ---- a view
@@ -62,12 +61,8 @@ FallbackBuffersReadBack = (n : ℕ) → n < 2 ^ 32 → object_of buffer_fields (
 
 -- where the lists of extensions are lists of texts, they are so with the name
 abbrev pub AddedNamesReadBack : Type 0
-AddedNamesReadBack = (t : PlainTree) → IsObject t
-    → IsOk (items_of_member ExtensionsUsed (codes "extensionsUsed") a_text t) → IsOk (items_of_member ExtensionsRequired (codes "extensionsRequired") a_text t)
-    → IsOk (items_of_member ExtensionsUsed (codes "extensionsUsed") a_text (with_extension_named t))
-    × IsOk (items_of_member ExtensionsRequired (codes "extensionsRequired") a_text (with_extension_named t))
+AddedNamesReadBack = (t : PlainTree) → IsObject t → StaysListsOfNames t (with_extension_named t)
 
 -- every other member is found as before
 abbrev pub AddedNamesKeepOthers : Type 0
-AddedNamesKeepOthers = (name : List ℕ) (t : PlainTree) → (name ≡ codes "extensionsUsed" → ⊥) → (name ≡ codes "extensionsRequired" → ⊥)
-    → find_member name (with_extension_named t) ≡ find_member name t
+AddedNamesKeepOthers = KeepsOthers with_extension_named

@@ -1,17 +1,17 @@
 -- What the fields of an asset are after the edits of `Edits`, as they are read from its tree again.
 use Rattle.std.specs.Prelude.{◌≡◌, ℕ, ◌<◌, ◌^◌, List, [], ◌∷◌, length, Some, None, Ok, IsOk, codes}
 use Rattle.std.specs.List.{All}
-use Rattle.gp_json.specs.Plain.{PlainTree}
-use Rattle.gp_json.specs.Values.{whole}
-use Rattle.gp_json.specs.Sound.{HasDistinctKeys}
-use Rattle.gp_json.specs.Find.{find_member}
-use Rattle.gp_json.specs.TreeEdits.{without, at_member, with_items}
+use Rattle.gp_tree.specs.Plain.{PlainTree}
+use Rattle.gp_tree.specs.Values.{whole}
+use Rattle.gp_tree.specs.Sound.{HasDistinctKeys}
+use Rattle.gp_tree.specs.Find.{find_member}
+use Rattle.gp_tree.specs.TreeEdits.{without, with_items}
 use Rattle.gp_fields.specs.declared.fault.Place.TheVariants.{ExtensionsUsed, ExtensionsRequired, BufferViews}
 use Rattle.gp_fields.specs.Shapes.{object_of, a_text}
 use Rattle.gp_fields.specs.Fields.{BufferFields, ViewFields, buffer_fields, view_fields}
 use Rattle.gp_fields.specs.Record.{AssetFields, items_of_shape, items_of_member, asset_fields}
 use Rattle.gp_edits.specs.Changes.{whole_number, change_each}
-use Rattle.gp_edits.specs.Edits.{placed, without_compression, sized_buffer, with_one_buffer, without_extension_named}
+use Rattle.gp_edits.specs.Edits.{placed, plain_view, with_plain_views, sized_buffer, with_one_buffer, without_extension_named}
 
 -- ---- a number
 
@@ -21,8 +21,8 @@ NumbersReadBack = (n : ℕ) → n < 2 ^ 32 → whole (whole_number n) ≡ Some n
 -- ---- a view
 
 -- the fields of a view in the first buffer, from this byte on, without an extension object
-abbrev pub plain_view_at : ℕ → ViewFields → ViewFields
-plain_view_at offset f = record { buffer = 0; offset = offset; length = f.length; stride = f.stride; packed = None }
+abbrev pub plain_view_fields : ℕ → ViewFields → ViewFields
+plain_view_fields offset f = record { buffer = 0; offset = offset; length = f.length; stride = f.stride; packed = None }
 
 -- those of a view in this buffer, from this byte on
 abbrev pub view_at : ℕ → ℕ → ViewFields → ViewFields
@@ -32,7 +32,7 @@ view_at buffer offset f = record { buffer = buffer; offset = offset; length = f.
 abbrev pub PlainViewsReadBack : Type 0
 PlainViewsReadBack = (buffers others offset : ℕ) (v : PlainTree) (f : ViewFields)
     → HasDistinctKeys v → object_of (view_fields buffers) v ≡ Some f → 0 < others → offset < 2 ^ 32
-    → object_of (view_fields others) (placed 0 offset (without_compression v)) ≡ Some (plain_view_at offset f)
+    → object_of (view_fields others) (plain_view offset v) ≡ Some (plain_view_fields offset f)
 
 -- a view that was placed reads back, with its extension object
 abbrev pub PlacedViewsReadBack : Type 0
@@ -52,12 +52,12 @@ BuffersReadBack = (n : ℕ) → n < 2 ^ 32 → object_of buffer_fields (sized_bu
 
 -- each view at its place in the first buffer, without its extension object
 abbrev pub with_views_at : List ℕ → PlainTree → PlainTree
-with_views_at offsets views = with_items (change_each (λ offset v. placed 0 offset (without_compression v)) offsets) views
+with_views_at offsets views = with_items (change_each plain_view offsets) views
 
-abbrev pub plain_views_at : List ℕ → List ViewFields → List ViewFields
-plain_views_at [] fs = []
-plain_views_at (offset ∷ offsets) [] = []
-plain_views_at (offset ∷ offsets) (f ∷ fs) = plain_view_at offset f ∷ plain_views_at offsets fs
+abbrev pub plain_views_fields : List ℕ → List ViewFields → List ViewFields
+plain_views_fields [] fs = []
+plain_views_fields (offset ∷ offsets) [] = []
+plain_views_fields (offset ∷ offsets) (f ∷ fs) = plain_view_fields offset f ∷ plain_views_fields offsets fs
 
 -- each place is a number that reads back
 abbrev pub FitsEach : List ℕ → Type 0
@@ -68,21 +68,26 @@ abbrev pub ListsOfViewsReadBack : Type 0
 ListsOfViewsReadBack = (buffers others : ℕ) (offsets : List ℕ) (views : PlainTree) (fs : List ViewFields)
     → HasDistinctKeys views → items_of_shape BufferViews (object_of (view_fields buffers)) views ≡ Ok fs
     → length offsets ≡ length fs → (0 < length fs → 0 < others) → FitsEach offsets
-    → items_of_shape BufferViews (object_of (view_fields others)) (with_views_at offsets views) ≡ Ok (plain_views_at offsets fs)
+    → items_of_shape BufferViews (object_of (view_fields others)) (with_views_at offsets views) ≡ Ok (plain_views_fields offsets fs)
 
 -- ---- the root
 
--- where the lists of extensions are lists of texts, they are so without the name
-abbrev pub ListsOfNamesReadBack : Type 0
-ListsOfNamesReadBack = (t : PlainTree) → HasDistinctKeys t
-    → IsOk (items_of_member ExtensionsUsed (codes "extensionsUsed") a_text t) → IsOk (items_of_member ExtensionsRequired (codes "extensionsRequired") a_text t)
-    → IsOk (items_of_member ExtensionsUsed (codes "extensionsUsed") a_text (without_extension_named t))
-    × IsOk (items_of_member ExtensionsRequired (codes "extensionsRequired") a_text (without_extension_named t))
+-- where the lists of extensions are lists of texts, they are so after an edit
+abbrev pub StaysListsOfNames : PlainTree → PlainTree → Type 0
+StaysListsOfNames before after =
+    IsOk (items_of_member ExtensionsUsed (codes "extensionsUsed") a_text before) → IsOk (items_of_member ExtensionsRequired (codes "extensionsRequired") a_text before)
+    → IsOk (items_of_member ExtensionsUsed (codes "extensionsUsed") a_text after) × IsOk (items_of_member ExtensionsRequired (codes "extensionsRequired") a_text after)
 
 -- every other member is found as before
+abbrev pub KeepsOthers : (PlainTree → PlainTree) → Type 0
+KeepsOthers edit = (name : List ℕ) (t : PlainTree) → (name ≡ codes "extensionsUsed" → ⊥) → (name ≡ codes "extensionsRequired" → ⊥)
+    → find_member name (edit t) ≡ find_member name t
+
+abbrev pub ListsOfNamesReadBack : Type 0
+ListsOfNamesReadBack = (t : PlainTree) → HasDistinctKeys t → StaysListsOfNames t (without_extension_named t)
+
 abbrev pub NamesKeepOthers : Type 0
-NamesKeepOthers = (name : List ℕ) (t : PlainTree) → (name ≡ codes "extensionsUsed" → ⊥) → (name ≡ codes "extensionsRequired" → ⊥)
-    → find_member name (without_extension_named t) ≡ find_member name t
+NamesKeepOthers = KeepsOthers without_extension_named
 
 -- ---- an asset
 
@@ -92,16 +97,16 @@ fields_with buffers views f = record { buffers = buffers; views = views; accesso
 
 -- all views in one buffer, and without their extension objects
 abbrev pub plain_in_one : ℕ → List ℕ → PlainTree → PlainTree
-plain_in_one n offsets t = without_extension_named (with_one_buffer n (at_member (codes "bufferViews") (with_views_at offsets) t))
+plain_in_one n offsets t = without_extension_named (with_one_buffer n (with_plain_views offsets t))
 
 abbrev pub AssetsReadBack : Type 0
 AssetsReadBack = (n : ℕ) (offsets : List ℕ) (t : PlainTree) (f : AssetFields)
     → HasDistinctKeys t → asset_fields t ≡ Ok f → n < 2 ^ 32 → length offsets ≡ length f.views → FitsEach offsets
-    → asset_fields (plain_in_one n offsets t) ≡ Ok (fields_with (buffer_of_length n ∷ []) (plain_views_at offsets f.views) f)
+    → asset_fields (plain_in_one n offsets t) ≡ Ok (fields_with (buffer_of_length n ∷ []) (plain_views_fields offsets f.views) f)
 
 -- no views, and no buffer
 abbrev pub plain_in_none : List ℕ → PlainTree → PlainTree
-plain_in_none offsets t = without_extension_named (without (codes "buffers") (at_member (codes "bufferViews") (with_views_at offsets) t))
+plain_in_none offsets t = without_extension_named (without (codes "buffers") (with_plain_views offsets t))
 
 abbrev pub AssetsOfNoViewsReadBack : Type 0
 AssetsOfNoViewsReadBack = (offsets : List ℕ) (t : PlainTree) (f : AssetFields)

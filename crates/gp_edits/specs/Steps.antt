@@ -1,8 +1,8 @@
 -- What single steps of the edits give.
 use Rattle.std.specs.Prelude.{ℕ, Bool, false, not, ◌&&◌, if◌then◌else◌, List, Option, Some, None}
-use Rattle.gp_json.specs.Plain.{PlainTree}
-use Rattle.gp_json.specs.Find.{find_member}
-use Rattle.gp_json.specs.TreeEdits.{without}
+use Rattle.gp_tree.specs.Plain.{PlainTree}
+use Rattle.gp_tree.specs.Find.{find_member}
+use Rattle.gp_tree.specs.TreeEdits.{without}
 use Rattle.gp_edits.specs.Changes.{is_empty}
 
 -- the value of a member is there, and empty

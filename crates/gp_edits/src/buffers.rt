@@ -1,15 +1,35 @@
 // The buffers of an asset (glTF 2.0, section 5.10).
 ghost use Rattle.std.specs.Prelude.{◌≡◌, IfOk, OnOk};
-ghost use Rattle.gp_json.specs.Plain.{plain};
-ghost use Rattle.gp_edits.specs.Edits.{sized_buffer, fallback_buffer, with_one_buffer, with_two_buffers};
+ghost use Rattle.gp_tree.specs.Plain.{plain};
+ghost use Rattle.gp_edits.specs.Edits.{sized_buffer, fallback_buffer, with_one_buffer, with_two_buffers, with_buffers_of};
 
 use gp_host::NoMemory;
-use gp_json::Tree;
+use gp_tree::Tree;
 use std::alloc::Global;
 
-/// Makes a buffer of this many bytes the one buffer of an asset.
+/// Gives an asset the buffers of its views: none, one of this length for their bytes, or also one of another length to
+/// fall back on.
+pub fn set_buffers(
+    alloc: Global,
+    root: &mut Tree,
+    length: Option<u64>,
+    fallback: Option<u64>,
+) -> Result<(), NoMemory>
+    ensures { OnOk result (plain root.new ≡ with_buffers_of length fallback (plain root.old)) }
+{
+    match (length, fallback) {
+        (None, _) => {
+            root.remove("buffers");
+            Ok(())
+        }
+        (Some(length), None) => set_one_buffer(alloc, root, length),
+        (Some(length), Some(fallback)) => set_two_buffers(alloc, root, length, fallback),
+    }
+}
+
+// Makes a buffer of this many bytes the one buffer of an asset.
 #[tactic(auto, unfolding(crate::specs::Edits::with_one_buffer))]
-pub fn set_one_buffer(alloc: Global, root: &mut Tree, length: u64) -> Result<(), NoMemory>
+fn set_one_buffer(alloc: Global, root: &mut Tree, length: u64) -> Result<(), NoMemory>
     ensures { OnOk result (plain root.new ≡ with_one_buffer length (plain root.old)) }
 {
     let mut buffers = Tree::list(alloc);
@@ -17,9 +37,9 @@ pub fn set_one_buffer(alloc: Global, root: &mut Tree, length: u64) -> Result<(),
     root.set(alloc, "buffers", buffers)
 }
 
-/// Makes a buffer of this many bytes and one to fall back on, without bytes, the buffers of an asset.
+// Makes a buffer of this many bytes and one to fall back on, without bytes, the buffers of an asset.
 #[tactic(auto, unfolding(crate::specs::Edits::with_two_buffers))]
-pub fn set_two_buffers(
+fn set_two_buffers(
     alloc: Global,
     root: &mut Tree,
     length: u64,

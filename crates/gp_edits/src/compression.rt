@@ -1,14 +1,14 @@
 // The extension object of a compressed buffer view (EXT_meshopt_compression).
 ghost use Rattle.std.specs.Prelude.{◌≡◌, IfOk, OnOk, IsSome, codes};
-ghost use Rattle.gp_json.specs.Plain.{plain, members, no_members};
-ghost use Rattle.gp_json.specs.Find.{find_member};
-ghost use Rattle.gp_json.specs.TreeEdits.{with_member, at_member};
-ghost use Rattle.gp_asset.specs.Kinds.{mode_name};
+ghost use Rattle.gp_tree.specs.Plain.{plain, members, no_members};
+ghost use Rattle.gp_tree.specs.Find.{find_member};
+ghost use Rattle.gp_tree.specs.TreeEdits.{with_member, at_member};
+ghost use Rattle.gp_rules.specs.Kinds.{mode_name};
 ghost use Rattle.gp_edits.specs.Edits.{extension_name, compression_object, compressed};
 
-use gp_asset::StreamMode;
 use gp_host::NoMemory;
-use gp_json::Tree;
+use gp_rules::StreamMode;
+use gp_tree::Tree;
 use std::alloc::Global;
 
 /// Where the stream of a view is in the first buffer, and what it holds. Numbers of bytes, save the count.

@@ -1,12 +1,12 @@
 // A change of each buffer view (glTF 2.0, section 5.11).
 ghost use Rattle.std.specs.Prelude.{◌≡◌, ◌<◌, List, length, slice_get, codes, IfSome, IsTrue, ◌↔◌, OnOk};
-ghost use Rattle.gp_json.specs.Plain.{PlainTree, plain, plain_trees, trees_of};
-ghost use Rattle.gp_json.specs.Find.{item_list, find_member};
-ghost use Rattle.gp_json.specs.TreeEdits.{at_member, with_items};
+ghost use Rattle.gp_tree.specs.Plain.{PlainTree, plain, plain_trees, trees_of};
+ghost use Rattle.gp_tree.specs.Find.{item_list, find_member};
+ghost use Rattle.gp_tree.specs.TreeEdits.{at_member, with_items};
 ghost use Rattle.gp_edits.specs.Changes.{change_each, applied, IsListIn};
 
 use gp_host::NoMemory;
-use gp_json::{Tree, Trees};
+use gp_tree::{Tree, Trees};
 use std::alloc::Global;
 
 /// Changes of the buffer views of an asset's JSON, one for each view by its number.

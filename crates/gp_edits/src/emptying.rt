@@ -1,11 +1,11 @@
 // Members that an edit empties.
 ghost use Rattle.std.specs.Prelude.{◌≡◌};
-ghost use Rattle.gp_json.specs.Plain.{plain};
-ghost use Rattle.gp_json.specs.Find.{find_member};
+ghost use Rattle.gp_tree.specs.Plain.{plain};
+ghost use Rattle.gp_tree.specs.Find.{find_member};
 ghost use Rattle.gp_edits.specs.Changes.{is_empty};
 ghost use Rattle.gp_edits.specs.Steps.{is_empty_at, past_emptied};
 
-use gp_json::Tree;
+use gp_tree::Tree;
 
 // Whether a member is an empty list or an empty object.
 pub(crate) fn is_empty_member(tree: &Tree, key: &str) -> bool

@@ -8,6 +8,7 @@ ghost use Rattle.gp_edits.specs.PackLaws.{PlacedStaysSound, CompressedStaysSound
 ghost use Rattle.gp_edits.specs.PackLaws.{CompressionAddsItsName, TwoBuffersUseOneMore, NamesUseOneMore};
 ghost use Rattle.gp_edits.specs.Own.{PlacedChangesItsOwn, RemovedChangesItsOwn, CompressedChangesItsOwn, RemovedKeepsExtensions, CompressedKeepsExtensions};
 ghost use Rattle.gp_edits.specs.Own.{OneBufferChangesItsOwn, TwoBuffersChangeTheirOwn, UnnamedChangesItsOwn, NamedChangesItsOwn, UnnamedKeepsNames, NamedKeepsNames};
+ghost use Rattle.gp_edits.specs.Own.{RemovedStays, CompressedStays, UnnamedStays, NamedStays};
 
 /// What the trees of two assets have in common says nothing of where a view is, and whether it is compressed.
 pub fn common_views_stay()
@@ -64,17 +65,22 @@ pub fn packing_uses_one_more()
     ensures named { NamesUseOneMore }
 {}
 
-/// Each edit changes its own members alone; those that hold other extensions too, or other names, keep them.
+/// Each edit changes its own members alone; those that hold other extensions too, or other names, keep them,
+/// and where they are no object, or no list, they stay as they are.
 pub fn edits_change_their_own()
     ensures placed { PlacedChangesItsOwn }
     ensures removed { RemovedChangesItsOwn }
     ensures removed_beside { RemovedKeepsExtensions }
+    ensures removed_stays { RemovedStays }
     ensures compressed { CompressedChangesItsOwn }
     ensures compressed_beside { CompressedKeepsExtensions }
+    ensures compressed_stays { CompressedStays }
     ensures one_buffer { OneBufferChangesItsOwn }
     ensures two_buffers { TwoBuffersChangeTheirOwn }
     ensures unnamed { UnnamedChangesItsOwn }
     ensures unnamed_beside { UnnamedKeepsNames }
+    ensures unnamed_stays { UnnamedStays }
     ensures named { NamedChangesItsOwn }
     ensures named_beside { NamedKeepsNames }
+    ensures named_stays { NamedStays }
 {}

@@ -21,7 +21,7 @@ pub mod reading_back;
 mod tests;
 mod views;
 
-pub use buffers::{set_one_buffer, set_two_buffers};
+pub use buffers::set_buffers;
 pub use compression::{Compression, compress_view};
 pub use each_view::{ViewEdits, edit_views};
 pub use names::{add_extension_names, remove_extension_names};

@@ -1,14 +1,14 @@
 // The names of the extensions that an asset uses (glTF 2.0, section 3.12).
 ghost use Rattle.std.specs.Prelude.{◌≡◌, ◌↔◌, IsTrue, IsSome, not, filter, OnOk, ◌∷◌, []};
-ghost use Rattle.gp_json.specs.Plain.{plain, plain_trees, trees_of, list, no_items};
-ghost use Rattle.gp_json.specs.Find.{IsList, find_member, item_list};
-ghost use Rattle.gp_json.specs.TreeEdits.{at_member, with_member, and_items};
+ghost use Rattle.gp_tree.specs.Plain.{plain, plain_trees, trees_of, list, no_items};
+ghost use Rattle.gp_tree.specs.Find.{IsList, find_member, item_list};
+ghost use Rattle.gp_tree.specs.TreeEdits.{at_member, with_member, and_items};
 ghost use Rattle.gp_edits.specs.Changes.{is_text_named, without_text};
 ghost use Rattle.gp_edits.specs.Edits.{extension_name, without_name_in, without_extension_named, with_name_in, with_extension_named};
 
 use crate::emptying::{is_empty_member, remove_emptied};
 use gp_host::NoMemory;
-use gp_json::{Tree, Trees, key_is};
+use gp_tree::{Tree, Trees, key_is};
 use std::alloc::Global;
 
 /// Takes the name of the extension out of both lists, at every place, and a list that this empties.

@@ -1,10 +1,10 @@
 //! Each edit once, from text to text.
 use crate::{
     Compression, add_extension_names, compress_view, place_view, remove_compression,
-    remove_extension_names, set_one_buffer, set_two_buffers,
+    remove_extension_names, set_buffers,
 };
-use gp_asset::StreamMode;
 use gp_json::{print, read};
+use gp_rules::StreamMode;
 use std::test::Fail;
 
 #[test]
@@ -43,7 +43,7 @@ fn one_buffer_is_left(rt: HostRuntime) -> Result<(), Fail> {
         alloc,
         br#"{"asset":{},"buffers":[{"byteLength":3},{"uri":"a"}],"scene":0}"#,
     )?;
-    set_one_buffer(alloc, &mut root, 1234)?;
+    set_buffers(alloc, &mut root, Some(1234), None)?;
     let text = print(alloc, &root)?;
     assert_eq!(rt;
         text.as_slice(),
@@ -95,7 +95,7 @@ fn a_view_is_compressed(rt: HostRuntime) -> Result<(), Fail> {
 fn two_buffers_are_left(rt: HostRuntime) -> Result<(), Fail> {
     let alloc = rt.alloc();
     let mut root = read(alloc, br#"{"buffers":[{"byteLength":3}],"scene":0}"#)?;
-    set_two_buffers(alloc, &mut root, 40, 64)?;
+    set_buffers(alloc, &mut root, Some(40), Some(64))?;
     let text = print(alloc, &root)?;
     assert_eq!(rt;
         text.as_slice(),

@@ -1,13 +1,13 @@
 // Where the bytes of a buffer view are (glTF 2.0, section 5.11), and its extension object.
 ghost use Rattle.std.specs.Prelude.{◌≡◌, OnOk, IsSome, codes};
-ghost use Rattle.gp_json.specs.Plain.{plain};
-ghost use Rattle.gp_json.specs.Find.{find_member};
-ghost use Rattle.gp_json.specs.TreeEdits.{at_member, without};
+ghost use Rattle.gp_tree.specs.Plain.{plain};
+ghost use Rattle.gp_tree.specs.Find.{find_member};
+ghost use Rattle.gp_tree.specs.TreeEdits.{at_member, without};
 ghost use Rattle.gp_edits.specs.Edits.{extension_name, placed, without_compression};
 
 use crate::emptying::{is_empty_member, remove_emptied};
 use gp_host::NoMemory;
-use gp_json::Tree;
+use gp_tree::Tree;
 use std::alloc::Global;
 
 /// Says that the bytes of a view are in this buffer, from this byte on.

@@ -7,8 +7,8 @@ use Rattle.std.proofs.lemmas.List.{length-take-le, length-drop, length-replicate
 use Rattle.std.proofs.lemmas.List.FromFn.{get_or-map-range_with_len, length-map-range_with_len, length-range_with_len}
 use Rattle.std.proofs.lemmas.Option.{slice_get-get_or}
 use Rattle.gp_asset.specs.Contents.{part}
-use Rattle.gp_asset.specs.declared.accessing.Accessor.{Accessor}
-use Rattle.gp_asset.specs.Accessors.{size_of}
+use Rattle.gp_rules.specs.declared.accessing.Accessor.{Accessor}
+use Rattle.gp_rules.specs.Accessors.{size_of}
 use Rattle.gp_elements.specs.Elements.{base_elements, zero_elements, element_at, stride_of, last_end, IsNumber, IsNumberSize}
 use Rattle.gp_elements.specs.Listed.{slices, AreWithin}
 

@@ -1,11 +1,11 @@
 -- Elements of small accessors, by computing.
 use Rattle.std.specs.Prelude.{◌≡◌, ℕ, [], ◌∷◌, true, Option, Some, None, refl}
-use Rattle.gp_asset.specs.declared.accessing.Accessor.{Accessor}
-use Rattle.gp_asset.specs.declared.accessing.Component.{Component}
-use Rattle.gp_asset.specs.declared.accessing.Component.TheVariants.{I16, U8, U16, F32}
-use Rattle.gp_asset.specs.declared.accessing.Shape.{Shape}
-use Rattle.gp_asset.specs.declared.accessing.Shape.TheVariants.{Scalar, Vec2, Vec3}
-use Rattle.gp_asset.specs.declared.storage.View.{View}
+use Rattle.gp_rules.specs.declared.accessing.Accessor.{Accessor}
+use Rattle.gp_rules.specs.declared.accessing.Component.{Component}
+use Rattle.gp_rules.specs.declared.accessing.Component.TheVariants.{I16, U8, U16, F32}
+use Rattle.gp_rules.specs.declared.accessing.Shape.{Shape}
+use Rattle.gp_rules.specs.declared.accessing.Shape.TheVariants.{Scalar, Vec2, Vec3}
+use Rattle.gp_rules.specs.declared.storage.View.{View}
 use Rattle.gp_asset.specs.Asset.{AssetParts}
 use Rattle.gp_elements.specs.Elements.{base_elements, zero_elements, number_of, elements_of}
 

@@ -1,11 +1,11 @@
 -- The elements of accessors as bytes (glTF 2.0, sections 3.6.2 and 5.1).
 use Rattle.std.specs.Prelude.{◌≡◌, ◌⊎◌, ℕ, ◌+◌, ◌-◌, ◌*◌, List, [], ◌∷◌, length, map, replicate, slice_get, unwrap_or, Option, Some, None, option_map, option_and_then}
 use Rattle.std.specs.List.{range_with_len}
-use Rattle.gp_asset.specs.declared.accessing.Accessor.{Accessor}
-use Rattle.gp_asset.specs.declared.accessing.Sparse.{Sparse}
-use Rattle.gp_asset.specs.declared.storage.View.{View}
-use Rattle.gp_asset.specs.Sizes.{component_size}
-use Rattle.gp_asset.specs.Accessors.{size_of}
+use Rattle.gp_rules.specs.declared.accessing.Accessor.{Accessor}
+use Rattle.gp_rules.specs.declared.accessing.Sparse.{Sparse}
+use Rattle.gp_rules.specs.declared.storage.View.{View}
+use Rattle.gp_rules.specs.Sizes.{component_size}
+use Rattle.gp_rules.specs.Accessors.{size_of}
 use Rattle.gp_asset.specs.Contents.{part}
 use Rattle.gp_asset.specs.Asset.{AssetParts}
 

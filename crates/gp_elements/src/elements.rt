@@ -3,7 +3,7 @@ ghost use Rattle.std.specs.Prelude.{◌≡◌, ◌<◌, ◌≤◌, length, slice
 ghost use Rattle.gp_elements.specs.Elements.{number_of, IsNumber, last_end, base_elements, zero_elements};
 
 use byteorder::{ByteOrder, LittleEndian};
-use gp_asset::{Accessor, element_size};
+use gp_rules::{Accessor, element_size};
 use std::marker::Model;
 
 // No element is longer than a matrix of 16 components of 4 bytes.

@@ -1,9 +1,9 @@
 // Elements of small accessors, with bytes and numbers that were written by hand.
 ghost use Rattle.std.specs.Prelude.{◌≡◌, Some, None};
-ghost use Rattle.gp_asset.specs.declared.accessing.Accessor.{Accessor as AccessorFields};
+ghost use Rattle.gp_rules.specs.declared.accessing.Accessor.{Accessor as AccessorFields};
 
 use super::*;
-use gp_asset::{Accessor, Component, Shape, element_size};
+use gp_rules::{Accessor, Component, Shape, element_size};
 
 // An accessor of buffer view 0.
 fn accessor(component: Component, shape: Shape, offset: u32, count: u32) -> Accessor

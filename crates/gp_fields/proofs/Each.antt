@@ -2,9 +2,9 @@
 use Rattle.std.specs.Prelude.{option_map, option_and_then}
 use Rattle.std.proofs.Common.{◌≡◌, ℕ, ◌+◌, ◌<◌, ◌≤◌, Option, Some, None, List, [], ◌∷◌, ◌++◌, length, map, get_or, drop, refl, sym, ap, ◌∙◌, append_assoc, append-nil}
 use Rattle.std.proofs.lemmas.List.{drop_more, drop_all}
-use Rattle.gp_json.specs.declared.tree.Tree.{Tree}
-use Rattle.gp_json.specs.Plain.{plain, plain_items, list}
-use Rattle.gp_json.proofs.Edited.{items_of}
+use Rattle.gp_tree.specs.declared.tree.Tree.{Tree}
+use Rattle.gp_tree.specs.Plain.{plain, plain_items, list}
+use Rattle.gp_tree.proofs.Edited.{items_of}
 use Rattle.gp_fields.specs.Shapes.{Shaped, each, list_of}
 
 -- those that were read, before the rest

@@ -2,9 +2,9 @@
 use Rattle.std.specs.Prelude.{option_map, option_and_then}
 use Rattle.std.proofs.Common.{◌≡◌, ℕ, ◌+◌, ◌<◌, ◌≤◌, Some, None, List, [], ◌∷◌, ◌++◌, length, map, get_or, drop, ap, ◌∙◌, append-nil}
 use Rattle.std.proofs.lemmas.List.{drop_more, drop_all}
-use Rattle.gp_json.specs.declared.tree.Member.{Member}
-use Rattle.gp_json.specs.Plain.{plain_member, plain_entries, members}
-use Rattle.gp_json.proofs.Firsts.{list_of}
+use Rattle.gp_tree.specs.declared.tree.Member.{Member}
+use Rattle.gp_tree.specs.Plain.{plain_member, plain_entries, members}
+use Rattle.gp_tree.proofs.Firsts.{list_of}
 use Rattle.gp_fields.specs.declared.geometry.Entry.{Entry}
 use Rattle.gp_fields.specs.Fields.{entry_of, entries_of, entries_fields}
 use Rattle.gp_fields.proofs.Each.{behind, behind_none, behind_one}

@@ -4,13 +4,14 @@ use Rattle.std.proofs.Common.{◌≡◌, ℕ, ◌+◌, ◌<◌, ◌≤◌, Optio
 use Rattle.std.specs.List.{filter_map, cons_option, position, position_from}
 use Rattle.std.proofs.lemmas.List.{drop_more, drop_all}
 use Rattle.std.proofs.lemmas.Iterator.Adapters.{position_from-zero}
-use Rattle.gp_json.specs.declared.tree.Tree.{Tree}
-use Rattle.gp_json.specs.Plain.{PlainTree, plain, plain_items, list}
-use Rattle.gp_json.proofs.Edited.{items_of}
+use Rattle.gp_tree.specs.declared.tree.Tree.{Tree}
+use Rattle.gp_tree.specs.Plain.{PlainTree, plain, plain_items, list}
+use Rattle.gp_tree.specs.Find.{find_member}
+use Rattle.gp_tree.proofs.Edited.{items_of}
 use Rattle.gp_fields.specs.declared.fault.Place.{Place}
 use Rattle.gp_fields.specs.declared.fault.FieldFault.{FieldFault}
 use Rattle.gp_fields.specs.Shapes.{Shaped}
-use Rattle.gp_fields.specs.Record.{lacking, unless, lacks, items_of_shape, fault_of}
+use Rattle.gp_fields.specs.Record.{lacking, unless, lacks, items_of_shape, items_of_member, fault_of}
 
 -- item k, and then the rest
 abbrev pub turn : {A : Type 0} → Place → ℕ → (A → Result (List A) FieldFault) → Option A → Result (List A) FieldFault
@@ -75,3 +76,11 @@ forget place shape k done ts =
     ap fault_of (from_is_found place shape k done ts)
     ∙ same_fault place (done ++ filter_map shape ts) (filter_map shape ts) (position_from (lacks shape) k ts)
     ∙ sym (ap fault_of (from_is_found place shape k [] ts))
+
+abbrev pub in_option : {A : Type 0} → Place → Shaped A → Option PlainTree → Result (List A) FieldFault
+in_option place shape o = elim o [ None ↦ Ok [] | Some found ↦ items_of_shape place shape found ]
+
+-- a member of the root that is there
+pub of_member : {A : Type 0} (place : Place) (name : List ℕ) (shape : Shaped A) (t : PlainTree) (found : PlainTree)
+    → find_member name t ≡ Some found → items_of_member place name shape t ≡ items_of_shape place shape found
+of_member place name shape t found e = ap (in_option place shape) e

@@ -1,7 +1,7 @@
 -- A chain of calls that each answer a part of what is wanted, by the number of items of a part before.
 use Rattle.std.specs.Prelude.{codes}
 use Rattle.std.proofs.Common.{◌≡◌, ℕ, List, length, Option, Result, Ok, Err, sym, ap, subst}
-use Rattle.gp_json.specs.Plain.{PlainTree}
+use Rattle.gp_tree.specs.Plain.{PlainTree}
 use Rattle.gp_fields.specs.declared.fault.Place.TheVariants.{BufferViews, Accessors, Meshes, Skins, Animations, Images}
 use Rattle.gp_fields.specs.declared.fault.FieldFault.{FieldFault}
 use Rattle.gp_fields.specs.declared.fault.FieldRefusal.{FieldRefusal}

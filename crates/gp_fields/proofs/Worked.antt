@@ -3,8 +3,8 @@ use Prim.Native.String.{String}
 use Rattle.std.specs.Prelude.{◌≡◌, List, [], ◌∷◌, Option, Some, None, codes}
 use Rattle.std.proofs.Common.{refl}
 use Rattle.std.specs.Str.{chars}
-use Rattle.gp_json.specs.Plain.{PlainTree, null, number, text, list, members, trees_of, members_of}
-use Rattle.gp_json.specs.Find.{PlainMember}
+use Rattle.gp_tree.specs.Plain.{PlainTree, null, number, text, list, members, trees_of, members_of}
+use Rattle.gp_tree.specs.Find.{PlainMember}
 use Rattle.gp_fields.specs.declared.fault.Place.TheVariants.{Root, ExtensionsUsed, Buffers, BufferViews, Accessors, Meshes, Skins, Animations, Images}
 use Rattle.gp_fields.specs.declared.fault.FieldFault.{FieldFault}
 use Rattle.gp_fields.specs.Fields.{mesh_fields}

@@ -1,8 +1,8 @@
 -- The fields that an asset is read from (glTF 2.0, section 5, and EXT_meshopt_compression): one row a field.
 use Rattle.std.specs.Prelude.{ℕ, List, [], ◌∷◌, map, Option, Some, option_map, option_and_then, codes}
-use Rattle.gp_json.specs.Plain.{PlainTree, members, no_members}
-use Rattle.gp_json.specs.Find.{PlainMember, object_members}
-use Rattle.gp_json.specs.Values.{whole}
+use Rattle.gp_tree.specs.Plain.{PlainTree, members, no_members}
+use Rattle.gp_tree.specs.Find.{PlainMember, object_members}
+use Rattle.gp_tree.specs.Values.{whole}
 use Rattle.gp_fields.specs.declared.geometry.Entry.{Entry}
 use Rattle.gp_fields.specs.declared.geometry.PrimitiveFields.{PrimitiveFields}
 use Rattle.gp_fields.specs.declared.sampling.SamplerFields.{SamplerFields}

@@ -1,6 +1,6 @@
 -- What is left of reading an asset, after the members before.
 use Rattle.std.specs.Prelude.{List, length, Result, Ok, codes}
-use Rattle.gp_json.specs.Plain.{PlainTree}
+use Rattle.gp_tree.specs.Plain.{PlainTree}
 use Rattle.gp_fields.specs.declared.fault.Place.TheVariants.{ExtensionsUsed, ExtensionsRequired, Buffers, BufferViews, Accessors, Meshes, Skins, Animations, Images}
 use Rattle.gp_fields.specs.declared.fault.FieldFault.{FieldFault}
 use Rattle.gp_fields.specs.Shapes.{object_of, a_text}

@@ -1,7 +1,7 @@
 -- The fields of an asset that a JSON value stands for, or the first of another shape (glTF 2.0, section 5.17).
 use Rattle.std.specs.Prelude.{◌≡◌, ℕ, Bool, List, [], length, position, filter_map, is_none, Option, Some, None, Result, Ok, Err, codes, ⊤}
-use Rattle.gp_json.specs.Plain.{PlainTree, list, members}
-use Rattle.gp_json.specs.Find.{item_list, find_member}
+use Rattle.gp_tree.specs.Plain.{PlainTree, list, members}
+use Rattle.gp_tree.specs.Find.{item_list, find_member}
 use Rattle.gp_fields.specs.declared.fault.Place.{Place}
 use Rattle.gp_fields.specs.declared.fault.Place.TheVariants.{Root, ExtensionsUsed, ExtensionsRequired, Buffers, BufferViews, Accessors, Meshes, Skins, Animations, Images}
 use Rattle.gp_fields.specs.declared.fault.FieldFault.{FieldFault}
@@ -21,8 +21,9 @@ pub record AssetFields : Type 0 where
   pub animations : List (List SamplerFields)
   pub images : List (Option ℕ)
 
+-- what follows, or the first fault
 infixl 10 ◌>>=◌
-abbrev pub ◌>>=◌ : {A B : Type 0} → Result A FieldFault → (A → Result B FieldFault) → Result B FieldFault
+abbrev pub ◌>>=◌ : {A B E : Type 0} → Result A E → (A → Result B E) → Result B E
 Ok a >>= f = f a
 Err fault >>= f = Err fault
 

@@ -1,8 +1,8 @@
 -- What a JSON value stands for by its shape, or none where it has another one.
 use Rattle.std.specs.Prelude.{ℕ, nat_lt, if◌then◌else◌, List, [], ◌∷◌, unwrap_or, Option, Some, None, option_map, option_and_then}
-use Rattle.gp_json.specs.Plain.{PlainTree, text, list, members}
-use Rattle.gp_json.specs.Find.{item_list, find_member}
-use Rattle.gp_json.specs.Values.{whole}
+use Rattle.gp_tree.specs.Plain.{PlainTree, text, list, members}
+use Rattle.gp_tree.specs.Find.{item_list, find_member}
+use Rattle.gp_tree.specs.Values.{whole}
 
 abbrev pub Shaped : Type 0 → Type 0
 Shaped A = PlainTree → Option A

@@ -1,22 +1,28 @@
 // The fields of an accessor (glTF 2.0, section 5.1).
 ghost use Rattle.std.specs.Prelude.{◌≡◌, codes};
-ghost use Rattle.gp_json.specs.Plain.{plain};
+ghost use Rattle.gp_tree.specs.Plain.{plain};
 ghost use Rattle.gp_fields.specs.Shapes.{object_of, optional};
 ghost use Rattle.gp_fields.specs.Fields.{AccessorFields as Meaning, accessor_fields, sparse_fields};
 
 use crate::reading::{as_object, optional_reference, required_text, required_whole, whole_or};
 use crate::sparse_fields::SparseFields;
-use gp_json::{Lexeme, Tree};
+use gp_tree::{Lexeme, Tree};
 use std::marker::Model;
 
-/// An accessor by its fields: the component by its number, the type of an element by its name, known or not.
+/// An accessor (glTF 2.0, section 5.1) by its fields. Component and type stand as the JSON has them, known or not.
 #[derive(Drop)]
 pub struct AccessorFields<'a> {
+    /// The number of its buffer view, below the number of views; `None` where it is absent.
     pub view: Option<u32>,
+    /// `byteOffset` into the buffer view, in bytes; 0 where it is absent.
     pub offset: u32,
+    /// `componentType` by its number, as 5126 of a float.
     pub component: u32,
+    /// `type` of an element by its name, as `VEC3`.
     pub shape: &'a Lexeme,
+    /// The number of elements.
     pub count: u32,
+    /// `sparse`; `None` where it is absent.
     pub sparse: Option<SparseFields>,
 }
 

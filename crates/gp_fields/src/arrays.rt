@@ -1,151 +1,75 @@
-// The arrays of an asset, item by item, up to the first item that lacks the shape.
-ghost use Rattle.std.specs.Prelude.{◌≡◌};
-ghost use Rattle.gp_json.specs.Plain.{plain, plain_items, list};
-ghost use Rattle.gp_fields.specs.declared.fault.Place.TheVariants.{Buffers, BufferViews, Accessors, Meshes, Skins, Animations, Images};
-ghost use Rattle.gp_fields.specs.Record.{lacking};
+// Lists of items of one kind, read item by item.
+ghost use Rattle.std.specs.Prelude.{◌≡◌, IfOk, option_map};
+ghost use Rattle.gp_tree.specs.Plain.{plain, plain_items, list};
 ghost use Rattle.gp_fields.specs.declared.fault.FieldRefusal.TheVariants.{Fault};
-ghost use Rattle.gp_fields.specs.Shapes.{object_of};
-ghost use Rattle.gp_fields.specs.Fields.{buffer_fields, view_fields, accessor_fields, mesh_fields, skin_fields, animation_fields, image_fields};
-ghost use Rattle.gp_fields.specs.Record.{items_of_shape, Answers};
+ghost use Rattle.gp_fields.specs.Shapes.{Shaped, list_of};
+ghost use Rattle.gp_fields.specs.Record.{lacking, items_of_shape, items_of_member, Answers};
 
-use crate::accessor_fields::AccessorFields;
-use crate::buffer_fields::BufferFields;
 use crate::fault::{FieldFault, FieldRefusal, Place};
-use crate::geometry::MeshFields;
-use crate::reading::{as_object, optional_reference};
-use crate::sampling::AnimationFields;
-use crate::view_fields::ViewFields;
-use gp_json::Tree;
+use gp_host::NoMemory;
+use gp_tree::Tree;
 use std::alloc::Global;
 
-pub(crate) fn read_buffers<'a>(
+// The shape of one kind of item.
+pub(crate) trait ItemShape<'a, T> {
+    ghost shape: { Self → Shaped T };
+
+    // The item that a value stands for; `None` where it has another shape.
+    fn read(&self, alloc: Global, value: &'a Tree) -> Result<Option<T>, NoMemory>
+        ensures { IfOk result (λ o. o ≡ shape self.now (plain value.now)) };
+}
+
+// The items of an array of the root, up to the first of another shape; an array that is absent has none.
+pub(crate) fn items_of<'a, T: Drop, S: ItemShape<'a, T>>(
+    alloc: Global,
+    root: &'a Tree,
+    key: &str,
+    member: Place,
+    shape: &S,
+) -> Result<Vec<T>, FieldRefusal>
+    ensures { Answers (items_of_member member key.now (S.shape shape.now) (plain root.now)) (λ v. v.items) result }
+{
+    match root.find(key) {
+        None => Ok(Vec::new(alloc)),
+        Some(Tree::List(items)) => read_items(alloc, items.as_slice(), member, shape),
+        Some(_) => Err(lacking(member, 0)),
+    }
+}
+
+fn read_items<'a, T: Drop, S: ItemShape<'a, T>>(
     alloc: Global,
     items: &'a [Tree],
-) -> Result<Vec<BufferFields<'a>>, FieldRefusal>
-    ensures { Answers (items_of_shape Buffers (object_of buffer_fields) (list (plain_items items.now))) (λ v. v.items) result }
+    member: Place,
+    shape: &S,
+) -> Result<Vec<T>, FieldRefusal>
+    ensures { Answers (items_of_shape member (S.shape shape.now) (list (plain_items items.now))) (λ v. v.items) result }
 {
     let mut read = Vec::new(alloc);
-    'buffers: for at in 0..items.len() {
-        let Some(buffer) = BufferFields::read(&items[at]) else {
-            return Err(lacking(Place::Buffers, at));
+    'turns: for at in 0..items.len() {
+        let Some(item) = shape.read(alloc, &items[at])? else {
+            return Err(lacking(member, at));
         };
-        read.push(buffer).map_err(|_| FieldRefusal::Memory)?;
+        read.push(item).map_err(|_| FieldRefusal::Memory)?;
     }
     Ok(read)
 }
 
-pub(crate) fn read_views<'a>(
+// The items of a list; `None` where one of them has another shape.
+pub(crate) fn read_all<'a, T: Drop, S: ItemShape<'a, T>>(
     alloc: Global,
     items: &'a [Tree],
-    buffers: usize,
-) -> Result<Vec<ViewFields<'a>>, FieldRefusal>
-    ensures { Answers (items_of_shape BufferViews (object_of (view_fields buffers)) (list (plain_items items.now))) (λ v. v.items) result }
+    shape: &S,
+) -> Result<Option<Vec<T>>, NoMemory>
+    ensures { IfOk result (λ o. option_map (λ v. v.items) o ≡ list_of (S.shape shape.now) (list (plain_items items.now))) }
 {
     let mut read = Vec::new(alloc);
-    'views: for at in 0..items.len() {
-        let Some(view) = ViewFields::read(&items[at], buffers) else {
-            return Err(lacking(Place::BufferViews, at));
+    'turns: for at in 0..items.len() {
+        let Some(item) = shape.read(alloc, &items[at])? else {
+            return Ok(None);
         };
-        read.push(view).map_err(|_| FieldRefusal::Memory)?;
+        read.push(item)?;
     }
-    Ok(read)
-}
-
-pub(crate) fn read_accessors<'a>(
-    alloc: Global,
-    items: &'a [Tree],
-    views: usize,
-) -> Result<Vec<AccessorFields<'a>>, FieldRefusal>
-    ensures { Answers (items_of_shape Accessors (object_of (accessor_fields views)) (list (plain_items items.now))) (λ v. v.items) result }
-{
-    let mut read = Vec::new(alloc);
-    'accessors: for at in 0..items.len() {
-        let Some(accessor) = AccessorFields::read(&items[at], views) else {
-            return Err(lacking(Place::Accessors, at));
-        };
-        read.push(accessor).map_err(|_| FieldRefusal::Memory)?;
-    }
-    Ok(read)
-}
-
-pub(crate) fn read_meshes(
-    alloc: Global,
-    items: &[Tree],
-    accessors: usize,
-) -> Result<Vec<MeshFields>, FieldRefusal>
-    ensures { Answers (items_of_shape Meshes (object_of (mesh_fields accessors)) (list (plain_items items.now))) (λ v. v.items) result }
-{
-    let mut read = Vec::new(alloc);
-    'meshes: for at in 0..items.len() {
-        let Some(mesh) = MeshFields::read(alloc, &items[at], accessors)? else {
-            return Err(lacking(Place::Meshes, at));
-        };
-        read.push(mesh).map_err(|_| FieldRefusal::Memory)?;
-    }
-    Ok(read)
-}
-
-pub(crate) fn read_skins(
-    alloc: Global,
-    items: &[Tree],
-    accessors: usize,
-) -> Result<Vec<Option<u32>>, FieldRefusal>
-    ensures { Answers (items_of_shape Skins (object_of (skin_fields accessors)) (list (plain_items items.now))) (λ v. v.items) result }
-{
-    let mut read = Vec::new(alloc);
-    'skins: for at in 0..items.len() {
-        let Some(skin) = read_skin(&items[at], accessors) else {
-            return Err(lacking(Place::Skins, at));
-        };
-        read.push(skin).map_err(|_| FieldRefusal::Memory)?;
-    }
-    Ok(read)
-}
-
-pub(crate) fn read_animations(
-    alloc: Global,
-    items: &[Tree],
-    accessors: usize,
-) -> Result<Vec<AnimationFields>, FieldRefusal>
-    ensures { Answers (items_of_shape Animations (object_of (animation_fields accessors)) (list (plain_items items.now))) (λ v. v.items) result }
-{
-    let mut read = Vec::new(alloc);
-    'animations: for at in 0..items.len() {
-        let Some(animation) = AnimationFields::read(alloc, &items[at], accessors)? else {
-            return Err(lacking(Place::Animations, at));
-        };
-        read.push(animation).map_err(|_| FieldRefusal::Memory)?;
-    }
-    Ok(read)
-}
-
-pub(crate) fn read_images(
-    alloc: Global,
-    items: &[Tree],
-    views: usize,
-) -> Result<Vec<Option<u32>>, FieldRefusal>
-    ensures { Answers (items_of_shape Images (object_of (image_fields views)) (list (plain_items items.now))) (λ v. v.items) result }
-{
-    let mut read = Vec::new(alloc);
-    'images: for at in 0..items.len() {
-        let Some(image) = read_image(&items[at], views) else {
-            return Err(lacking(Place::Images, at));
-        };
-        read.push(image).map_err(|_| FieldRefusal::Memory)?;
-    }
-    Ok(read)
-}
-
-fn read_skin(value: &Tree, accessors: usize) -> Option<Option<u32>>
-    ensures { result ≡ object_of (skin_fields accessors) (plain value.now) }
-{
-    optional_reference(as_object(value)?, "inverseBindMatrices", accessors)
-}
-
-fn read_image(value: &Tree, views: usize) -> Option<Option<u32>>
-    ensures { result ≡ object_of (image_fields views) (plain value.now) }
-{
-    optional_reference(as_object(value)?, "bufferView", views)
+    Ok(Some(read))
 }
 
 // Item `at` of this member lacks the shape.

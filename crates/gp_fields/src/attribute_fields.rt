@@ -1,13 +1,15 @@
 // The members of `attributes` and of morph targets: semantics and their accessors (glTF 2.0, section 5.24).
 ghost use Rattle.std.specs.Prelude.{◌≡◌, IfOk, [], codes};
-ghost use Rattle.gp_json.specs.Plain.{plain, plain_items, plain_member, plain_entries, list, members};
+ghost use Rattle.gp_tree.specs.Plain.{plain, plain_items, plain_member, plain_entries, list, members};
 ghost use Rattle.gp_fields.specs.Shapes.{object_of, list_of, required, defaulted};
 ghost use Rattle.gp_fields.specs.Fields.{entry_of, entries_fields};
 
+use crate::arrays::read_all;
 use crate::geometry::{Entries, Entry, Targets};
 use crate::reading::as_reference;
+use crate::shapes::TargetShape;
 use gp_host::NoMemory;
-use gp_json::{Lexeme, Member, Tree};
+use gp_tree::{Lexeme, Member, Tree};
 use std::alloc::Global;
 
 pub(crate) fn attributes_of(
@@ -44,17 +46,15 @@ fn read_targets(
 ) -> Result<Option<Targets>, NoMemory>
     ensures { IfOk result (λ o. o ≡ list_of (object_of (entries_fields accessors)) (list (plain_items items.now))) }
 {
-    let mut read = Vec::new(alloc);
-    'targets: for at in 0..items.len() {
-        let Some(target) = read_entries(alloc, &items[at], accessors)? else {
-            return Ok(None);
-        };
-        read.push(target)?;
-    }
-    Ok(Some(Targets::from_vec(read)))
+    let targets = read_all(alloc, items, &TargetShape { accessors })?;
+    Ok(targets.map(|items| Targets::from_vec(items)))
 }
 
-fn read_entries(alloc: Global, value: &Tree, accessors: usize) -> Result<Option<Entries>, NoMemory>
+pub(crate) fn read_entries(
+    alloc: Global,
+    value: &Tree,
+    accessors: usize,
+) -> Result<Option<Entries>, NoMemory>
     ensures { IfOk result (λ o. o ≡ object_of (entries_fields accessors) (plain value.now)) }
 {
     match value {
@@ -88,7 +88,7 @@ impl Entry {
         let Some(accessor) = as_reference(&member.value, accessors) else {
             return Ok(None);
         };
-        let name = Lexeme::from_vec(member.key.as_slice().to_vec(alloc)?);
+        let name = Lexeme::from_slice(alloc, member.key.as_slice())?;
         Ok(Some(Entry { name, accessor }))
     }
 }

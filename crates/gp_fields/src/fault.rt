@@ -28,16 +28,17 @@ pub enum Place {
     Images,
 }
 
-/// A field is missing or has another shape, in item `at` of this member, counted from 0; `at` is 0 where the member
-/// itself is of another kind.
+/// Where a field is missing or of another shape.
 #[derive(Clone, Copy, Debug, PartialEq, Eq, Error)]
 #[error("a field of another shape in item {at} of {member:?}")]
 pub struct FieldFault {
+    /// The member of the root, or the root itself.
     pub member: Place,
+    /// The number of the item in that member, counted from 0; 0 too where the member itself is of another kind.
     pub at: usize,
 }
 
-/// Why no fields are given.
+/// Why [`read_fields`](crate::read_fields) gives no fields.
 #[derive(Clone, Copy, Debug, PartialEq, Eq, Error)]
 pub enum FieldRefusal {
     /// There is this fault, and none before it.

@@ -1,7 +1,7 @@
 // Meshes, their primitives, and the accessors that they name (glTF 2.0, sections 5.23 and 5.24).
 ghost use Rattle.std.specs.Prelude.{◌≡◌};
 
-use gp_json::Lexeme;
+use gp_tree::Lexeme;
 use std::marker::Model;
 
 /// A member of `attributes`, or of a morph target: a semantic and its accessor (glTF 2.0, section 3.7.2.1).
@@ -9,11 +9,11 @@ use std::marker::Model;
 pub struct Entry {
     /// The semantic, as its key is spelled.
     pub name: Lexeme,
-    /// The number of the accessor.
+    /// The number of the accessor, below the number of accessors.
     pub accessor: u32,
 }
 
-/// A list of entries, over a `Vec<Entry>`.
+/// The members of `attributes` or of a morph target, in the order of the JSON.
 #[derive(Drop)]
 pub struct Entries {
     items: Vec<Entry>,
@@ -51,7 +51,7 @@ impl Entries {
     }
 }
 
-/// The morph targets of a primitive (glTF 2.0, section 3.7.2.2), over a `Vec<Entries>`.
+/// The morph targets of a primitive (glTF 2.0, section 3.7.2.2), in order.
 #[derive(Drop)]
 pub struct Targets {
     items: Vec<Entries>,
@@ -89,22 +89,23 @@ impl Targets {
     }
 }
 
-/// The fields of a primitive (section 5.24).
+/// A primitive (glTF 2.0, section 5.24) by its fields.
 #[derive(Drop)]
 pub struct PrimitiveFields {
-    /// Its topology; 4, a list of triangles, where it says none.
+    /// `mode`, its topology, known or not; 4, a list of triangles, where it is absent.
     pub mode: u32,
     /// The accessors of its vertices.
     pub attributes: Entries,
-    /// Its morph targets.
+    /// Its morph targets; none where `targets` is absent.
     pub targets: Targets,
-    /// The number of the accessor of its indices.
+    /// The number of the accessor of its indices; `None` where it is absent.
     pub indices: Option<u32>,
 }
 
-/// A mesh by the fields of its primitives (section 5.23).
+/// A mesh (glTF 2.0, section 5.23) by its fields.
 #[derive(Drop)]
 pub struct MeshFields {
+    /// Its primitives, in order; there may be none.
     pub primitives: Vec<PrimitiveFields>,
 }
 

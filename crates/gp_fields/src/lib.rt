@@ -20,6 +20,7 @@ mod names;
 mod reading;
 mod root;
 mod sampling;
+mod shapes;
 mod sparse_fields;
 #[cfg(test)]
 mod tests;

@@ -1,18 +1,20 @@
 // The fields of a mesh and of its primitives (glTF 2.0, sections 5.23 and 5.24).
 ghost use Rattle.std.specs.Prelude.{◌≡◌, IfOk, option_map};
-ghost use Rattle.gp_json.specs.Plain.{plain, plain_items, list};
+ghost use Rattle.gp_tree.specs.Plain.{plain, plain_items, list};
 ghost use Rattle.gp_fields.specs.Shapes.{object_of, list_of};
 ghost use Rattle.gp_fields.specs.Fields.{primitive_fields, mesh_fields};
 
+use crate::arrays::read_all;
 use crate::attribute_fields::{attributes_of, targets_of};
 use crate::geometry::{MeshFields, PrimitiveFields};
 use crate::reading::{as_object, optional_reference, whole_or};
+use crate::shapes::PrimitiveShape;
 use gp_host::NoMemory;
-use gp_json::Tree;
+use gp_tree::Tree;
 use std::alloc::Global;
 
 impl PrimitiveFields {
-    fn read(
+    pub(crate) fn read(
         alloc: Global,
         value: &Tree,
         accessors: usize,
@@ -77,26 +79,10 @@ impl MeshFields {
         let Some(Tree::List(items)) = object.find("primitives") else {
             return Ok(None);
         };
-        let Some(primitives) = read_primitives(alloc, items.as_slice(), accessors)? else {
+        let Some(primitives) = read_all(alloc, items.as_slice(), &PrimitiveShape { accessors })?
+        else {
             return Ok(None);
         };
         Ok(Some(MeshFields { primitives }))
     }
-}
-
-fn read_primitives(
-    alloc: Global,
-    items: &[Tree],
-    accessors: usize,
-) -> Result<Option<Vec<PrimitiveFields>>, NoMemory>
-    ensures { IfOk result (λ o. option_map (λ v. v.items) o ≡ list_of (object_of (primitive_fields accessors)) (list (plain_items items.now))) }
-{
-    let mut read = Vec::new(alloc);
-    'primitives: for at in 0..items.len() {
-        let Some(primitive) = PrimitiveFields::read(alloc, &items[at], accessors)? else {
-            return Ok(None);
-        };
-        read.push(primitive)?;
-    }
-    Ok(Some(read))
 }

@@ -1,12 +1,12 @@
 // The names of extensions that the root lists (glTF 2.0, section 3.12).
 ghost use Rattle.std.specs.Prelude.{◌≡◌};
-ghost use Rattle.gp_json.specs.Plain.{plain, plain_items, list};
+ghost use Rattle.gp_tree.specs.Plain.{plain, plain_items, list};
 ghost use Rattle.gp_fields.specs.Shapes.{a_text};
 ghost use Rattle.gp_fields.specs.Record.{items_of_shape, items_of_member, fault_of};
 
 use crate::fault::{FieldFault, Place};
 use crate::reading::as_text;
-use gp_json::Tree;
+use gp_tree::Tree;
 
 // The fault of a member of the root that is to be a list of texts, where it is there.
 pub(crate) fn names_fault(root: &Tree, key: &str, member: Place) -> Option<FieldFault>

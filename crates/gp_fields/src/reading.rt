@@ -1,10 +1,10 @@
 // Members of an object of the JSON, read one by one by their shapes. Of a value that is no object none is there.
 ghost use Rattle.std.specs.Prelude.{◌≡◌, option_map, MatchOption, Some, None};
-ghost use Rattle.gp_json.specs.Plain.{plain};
-ghost use Rattle.gp_json.specs.Values.{whole};
+ghost use Rattle.gp_tree.specs.Plain.{plain};
+ghost use Rattle.gp_tree.specs.Values.{whole};
 ghost use Rattle.gp_fields.specs.Shapes.{a_text, an_object, reference, required, optional, defaulted};
 
-use gp_json::{Lexeme, Tree};
+use gp_tree::{Lexeme, Tree};
 
 // The number of an item of a list with this length.
 pub(crate) fn as_reference(value: &Tree, len: usize) -> Option<u32>
@@ -14,7 +14,7 @@ pub(crate) fn as_reference(value: &Tree, len: usize) -> Option<u32>
     if (at as usize) < len { Some(at) } else { None }
 }
 
-/// A string, as it is spelled; `None` of a value that is no string.
+/// A JSON string, as it is spelled between its quotes (RFC 8259, section 7); `None` of a value that is no string.
 pub fn as_text(value: &Tree) -> Option<&Lexeme>
     ensures { option_map (λ s. s.now) result ≡ a_text (plain value.now) }
 {

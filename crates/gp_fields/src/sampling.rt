@@ -1,24 +1,28 @@
 // The samplers of an animation (glTF 2.0, sections 5.5 and 5.8).
 ghost use Rattle.std.specs.Prelude.{◌≡◌, IfOk, option_map};
-ghost use Rattle.gp_json.specs.Plain.{plain, plain_items, list};
+ghost use Rattle.gp_tree.specs.Plain.{plain, plain_items, list};
 ghost use Rattle.gp_fields.specs.Shapes.{object_of, list_of};
 ghost use Rattle.gp_fields.specs.Fields.{sampler_fields, animation_fields};
 
+use crate::arrays::read_all;
 use crate::reading::{as_object, required_reference};
+use crate::shapes::SamplerShape;
 use gp_host::NoMemory;
-use gp_json::Tree;
+use gp_tree::Tree;
 use std::alloc::Global;
 use std::marker::Model;
 
-/// A sampler by its fields: the accessors of the times and of the values (section 5.8).
+/// A sampler of an animation (glTF 2.0, section 5.8) by its fields.
 #[derive(Clone, Copy, Debug, PartialEq, Eq)]
 pub struct SamplerFields {
+    /// The number of the accessor of the times of its keyframes.
     pub input: u32,
+    /// The number of the accessor of the values at its keyframes.
     pub output: u32,
 }
 
 impl SamplerFields {
-    fn read(value: &Tree, accessors: usize) -> Option<SamplerFields>
+    pub(crate) fn read(value: &Tree, accessors: usize) -> Option<SamplerFields>
         ensures { result ≡ object_of (sampler_fields accessors) (plain value.now) }
     {
         let object = as_object(value)?;
@@ -28,9 +32,10 @@ impl SamplerFields {
     }
 }
 
-/// An animation by the fields of its samplers (section 5.5).
+/// An animation (glTF 2.0, section 5.5) by its fields.
 #[derive(Drop)]
 pub struct AnimationFields {
+    /// Its samplers, in order; there may be none.
     pub samplers: Vec<SamplerFields>,
 }
 
@@ -67,27 +72,9 @@ impl AnimationFields {
         let Some(Tree::List(items)) = object.find("samplers") else {
             return Ok(None);
         };
-        let Some(samplers) = read_samplers(alloc, items.as_slice(), accessors)? else {
+        let Some(samplers) = read_all(alloc, items.as_slice(), &SamplerShape { accessors })? else {
             return Ok(None);
         };
         Ok(Some(AnimationFields { samplers }))
     }
-}
-
-// The samplers of a list, or `None` where one of them has another shape.
-fn read_samplers(
-    alloc: Global,
-    items: &[Tree],
-    accessors: usize,
-) -> Result<Option<Vec<SamplerFields>>, NoMemory>
-    ensures { IfOk result (λ o. option_map (λ v. v.items) o ≡ list_of (object_of (sampler_fields accessors)) (list (plain_items items.now))) }
-{
-    let mut read = Vec::new(alloc);
-    'samplers: for at in 0..items.len() {
-        let Some(sampler) = SamplerFields::read(&items[at], accessors) else {
-            return Ok(None);
-        };
-        read.push(sampler)?;
-    }
-    Ok(Some(read))
 }

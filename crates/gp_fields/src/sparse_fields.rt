@@ -1,17 +1,20 @@
 // The fields of the sparse part of an accessor (glTF 2.0, sections 5.2 to 5.4).
 ghost use Rattle.std.specs.Prelude.{◌≡◌};
-ghost use Rattle.gp_json.specs.Plain.{plain};
+ghost use Rattle.gp_tree.specs.Plain.{plain};
 ghost use Rattle.gp_fields.specs.Shapes.{object_of};
 ghost use Rattle.gp_fields.specs.Fields.{sparse_indices_fields, sparse_values_fields, sparse_fields};
 
 use crate::reading::{as_object, required_reference, required_whole, whole_or};
-use gp_json::Tree;
+use gp_tree::Tree;
 
-/// Where the places of the elements stand, and the number of their component (section 5.3).
+/// Where the indices of a sparse accessor's substituted elements stand (glTF 2.0, section 5.3).
 #[derive(Clone, Copy, Debug, PartialEq, Eq)]
 pub struct SparseIndicesFields {
+    /// The number of the buffer view, below the number of views.
     pub view: u32,
+    /// `byteOffset` into the buffer view, in bytes; 0 where it is absent.
     pub offset: u32,
+    /// `componentType` of an index by its number, known or not.
     pub component: u32,
 }
 
@@ -31,10 +34,12 @@ impl SparseIndicesFields {
     }
 }
 
-/// Where the values of the elements stand (section 5.4).
+/// Where the values of a sparse accessor's substituted elements stand (glTF 2.0, section 5.4).
 #[derive(Clone, Copy, Debug, PartialEq, Eq)]
 pub struct SparseValuesFields {
+    /// The number of the buffer view, below the number of views.
     pub view: u32,
+    /// `byteOffset` into the buffer view, in bytes; 0 where it is absent.
     pub offset: u32,
 }
 
@@ -49,9 +54,10 @@ impl SparseValuesFields {
     }
 }
 
-/// The number of elements that are given apart, their places and their values (section 5.2).
+/// The sparse storage of an accessor's elements that differ (glTF 2.0, section 5.2).
 #[derive(Clone, Copy, Debug, PartialEq, Eq)]
 pub struct SparseFields {
+    /// The number of substituted elements.
     pub count: u32,
     pub indices: SparseIndicesFields,
     pub values: SparseValuesFields,

@@ -59,9 +59,18 @@ impl Kind {
     }
 }
 
+// What stands before a value of another kind, that kind, and what stands after.
+type Row = (&'static str, Kind, &'static str);
+
 // The place that is named, or `None` where all fields are read.
-fn fault_of(alloc: Global, text: &[u8]) -> Result<Option<(Place, usize)>, Fail> {
-    let root = read(alloc, text)?;
+type Answer = Option<(Place, usize)>;
+
+fn answer_to(alloc: Global, parts: &[&'static str]) -> Result<Answer, Fail> {
+    let mut text = Vec::new(alloc);
+    for part in parts {
+        text.extend_from_slice(part.as_bytes())?;
+    }
+    let root = read(alloc, &text)?;
     match read_fields(alloc, &root) {
         Ok(_) => Ok(None),
         Err(FieldRefusal::Fault(fault)) => Ok(Some((fault.member, fault.at))),
@@ -69,33 +78,62 @@ fn fault_of(alloc: Global, text: &[u8]) -> Result<Option<(Place, usize)>, Fail> 
     }
 }
 
-// The same of a text in two parts, with this value between them.
-fn fault_with(
+// The first text, put into this frame, that is answered otherwise.
+fn odd_text(
     alloc: Global,
-    before: (&str, &str),
-    value: &str,
-    after: (&str, &str),
-) -> Result<Option<(Place, usize)>, Fail> {
-    let mut text = Vec::new(alloc);
-    text.extend_from_slice(before.0.as_bytes())?;
-    text.extend_from_slice(before.1.as_bytes())?;
-    text.extend_from_slice(value.as_bytes())?;
-    text.extend_from_slice(after.0.as_bytes())?;
-    text.extend_from_slice(after.1.as_bytes())?;
-    fault_of(alloc, &text)
+    answer: Answer,
+    frame: (&'static str, &'static str),
+    texts: &'static [&'static str],
+) -> Result<Option<&'static str>, Fail> {
+    for text in texts {
+        if answer_to(alloc, &[frame.0, *text, frame.1])? != answer {
+            return Ok(Some(*text));
+        }
+    }
+    Ok(None)
+}
+
+// The first case, put behind this text, that isn't answered by its own answer.
+fn odd_case(
+    alloc: Global,
+    before: &'static str,
+    cases: &'static [(&'static str, Answer)],
+) -> Result<Option<&'static str>, Fail> {
+    for case in cases {
+        let (text, answer) = *case;
+        if answer_to(alloc, &[before, text])? != answer {
+            return Ok(Some(text));
+        }
+    }
+    Ok(None)
 }
 
 // The first value of another kind with which something else is named than this place.
-fn odd_one(
+fn odd_value(
     alloc: Global,
     place: (Place, usize),
-    before: (&str, &str),
-    kind: Kind,
-    after: (&str, &str),
+    frame: (&'static str, &'static str),
+    row: Row,
 ) -> Result<Option<&'static str>, Fail> {
+    let (before, kind, after) = row;
     for value in kind.others() {
-        if fault_with(alloc, before, value, after)? != Some(place) {
-            return Ok(Some(value));
+        if answer_to(alloc, &[frame.0, before, *value, after, frame.1])? != Some(place) {
+            return Ok(Some(*value));
+        }
+    }
+    Ok(None)
+}
+
+// The first row with such a value, and that value.
+fn odd_row(
+    alloc: Global,
+    place: (Place, usize),
+    frame: (&'static str, &'static str),
+    rows: &'static [Row],
+) -> Result<Option<(&'static str, &'static str)>, Fail> {
+    for row in rows {
+        if let Some(value) = odd_value(alloc, place, frame, *row)? {
+            return Ok(Some((row.0, value)));
         }
     }
     Ok(None)

@@ -1,6 +1,6 @@
 // The fields of a buffer view (glTF 2.0, section 5.11), and of its compressed form (EXT_meshopt_compression).
 ghost use Rattle.std.specs.Prelude.{◌≡◌, codes, unwrap_or, option_map};
-ghost use Rattle.gp_json.specs.Plain.{plain};
+ghost use Rattle.gp_tree.specs.Plain.{plain};
 ghost use Rattle.gp_fields.specs.Shapes.{object_of, optional};
 ghost use Rattle.gp_fields.specs.Fields.{PackedFields as PackedMeaning, ViewFields as ViewMeaning, packed_fields, packed_of, view_fields};
 
@@ -8,18 +8,26 @@ use crate::reading::{
     as_object, optional_text, optional_whole, required_reference, required_text, required_whole,
     whole_or,
 };
-use gp_json::{Lexeme, Tree};
+use gp_tree::{Lexeme, Tree};
 use std::marker::Model;
 
-/// A compressed form by its fields: mode and filter by their names, known or not. No filter is the filter `NONE`.
+/// The extension object of a compressed buffer view (EXT_meshopt_compression) by its fields. Mode and filter stand as
+/// they are spelled, known or not.
 #[derive(Drop)]
 pub struct PackedFields<'a> {
+    /// The number of the buffer of the compressed bytes, below the number of buffers.
     pub buffer: u32,
+    /// `byteOffset` into that buffer, in bytes; 0 where it is absent.
     pub offset: u32,
+    /// `byteLength` of the compressed bytes.
     pub length: u32,
+    /// `byteStride` of an element once it is decoded, in bytes.
     pub stride: u32,
+    /// The number of elements.
     pub count: u32,
+    /// `mode`, as `ATTRIBUTES`, `TRIANGLES` or `INDICES`.
     pub mode: &'a Lexeme,
+    /// `filter`; `None` where it is absent, which means the filter `NONE`.
     pub filter: Option<&'a Lexeme>,
 }
 
@@ -58,13 +66,18 @@ impl<'a> PackedFields<'a> {
     }
 }
 
-/// A buffer view by its fields, and those of its compressed form, where there is one.
+/// A buffer view (glTF 2.0, section 5.11) by its fields.
 #[derive(Drop)]
 pub struct ViewFields<'a> {
+    /// The number of its buffer, below the number of buffers.
     pub buffer: u32,
+    /// `byteOffset` into that buffer, in bytes; 0 where it is absent.
     pub offset: u32,
+    /// `byteLength`, in bytes.
     pub length: u32,
+    /// `byteStride`, in bytes; `None` where it is absent.
     pub stride: Option<u32>,
+    /// Its compressed form; `None` where it has no extension `EXT_meshopt_compression`.
     pub packed: Option<PackedFields<'a>>,
 }
 

@@ -1,5 +1,5 @@
 // All fields of an asset.
-ghost use Rattle.gp_json.specs.Plain.{plain};
+ghost use Rattle.gp_tree.specs.Plain.{plain};
 ghost use Rattle.gp_fields.specs.Record.{AssetFields as Meaning, Answers, asset_fields};
 ghost use Rattle.gp_fields.specs.Left.{names_on, buffers_on, meshes_on};
 
@@ -14,21 +14,22 @@ use crate::root::{
 };
 use crate::sampling::AnimationFields;
 use crate::view_fields::ViewFields;
-use gp_json::Tree;
+use gp_tree::Tree;
 use std::alloc::Global;
 use std::marker::Model;
 
-/// The fields of an asset, array by array; an array that is absent is empty.
+/// The fields of an asset (glTF 2.0, section 5.17), array by array in the order of the JSON; an array that is absent is
+/// empty.
 #[derive(Drop)]
 pub struct AssetFields<'a> {
     pub buffers: Vec<BufferFields<'a>>,
     pub views: Vec<ViewFields<'a>>,
     pub accessors: Vec<AccessorFields<'a>>,
     pub meshes: Vec<MeshFields>,
-    /// The accessor of the inverse bind matrices of each skin.
+    /// Of each skin (section 5.28) the number of the accessor of its inverse bind matrices; `None` where it is absent.
     pub skins: Vec<Option<u32>>,
     pub animations: Vec<AnimationFields>,
-    /// The buffer view of each image.
+    /// Of each image (section 5.18) the number of its buffer view; `None` where it is absent.
     pub images: Vec<Option<u32>>,
 }
 
@@ -38,8 +39,8 @@ impl<'a> Model for AssetFields<'a> {
     ghost view = { λ a. record { buffers = a.buffers.items; views = a.views.items; accessors = a.accessors.items; meshes = a.meshes.items; skins = a.skins.items; animations = a.animations.items; images = a.images.items } };
 }
 
-/// The fields of the asset whose JSON this is, or its first member and item of another shape, in the order of [`Place`].
-/// Each member is looked at once, and no other.
+/// The fields of the asset whose JSON this is. An error is the first member and item of another shape, in the order of
+/// [`Place`], or want of memory. Other members than those of [`Place`] are not looked at.
 #[tactic(auto, unfolding(crate::specs::Record::asset_fields))]
 pub fn read_fields<'a>(alloc: Global, root: &'a Tree) -> Result<AssetFields<'a>, FieldRefusal>
     ensures { Answers (asset_fields (plain root.now)) (λ a. a) result }

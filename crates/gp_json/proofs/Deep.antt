@@ -2,14 +2,14 @@
 use Rattle.std.proofs.Common.{◌≡◌, ◌⊎◌, inl, inr, ℕ, zero, suc, ◌+◌, ◌<◌, List, [], ◌∷◌, ◌++◌, refl, sym, ap, ◌∙◌, subst, append_assoc, arith}
 use Rattle.std.proofs.lemmas.List.{append_cancel_left}
 use Rattle.std.proofs.lemmas.Bool.{cases_lt}
-use Rattle.gp_json.specs.Plain.{PlainTree, PlainTrees, PlainMembers, null, truth, number, text, list, members, no_items, item, no_members, member}
+use Rattle.gp_tree.specs.Plain.{PlainTree, PlainTrees, PlainMembers, null, truth, number, text, list, members, no_items, item, no_members, member}
 use Rattle.gp_json.specs.declared.fault.JsonFault.TheVariants.{NotUtf8, TooDeep, NotJson, DuplicateKey}
 use Rattle.gp_json.specs.declared.fault.JsonRefusal.{JsonRefusal}
 use Rattle.gp_json.specs.declared.fault.JsonRefusal.TheVariants.{Fault, Memory}
-use Rattle.gp_json.specs.Lexical.{IsSpace}
+use Rattle.gp_tree.specs.Lexical.{IsSpace}
 use Rattle.gp_json.specs.Text.{quoted}
 use Rattle.gp_json.specs.Spelling.{IsValue, AreItems, AreMoreItems, AreMembers, AreMoreMembers}
-use Rattle.gp_json.specs.Sound.{depth, items_depth, members_depth}
+use Rattle.gp_tree.specs.Sound.{depth, items_depth, members_depth}
 use Rattle.gp_json.specs.Reading.{EndsSpace, Ends, BeginsValue, BeginsMember, HasNone}
 use Rattle.gp_json.specs.Deep.{Past, here, next, IsItem, Keyed, Opens, IsDeep, Tells}
 use Rattle.gp_json.proofs.Unique.{each_append, regroup, space_unique, mark_stops, mark_ends_space, ends_stop, value_first, value_ends_space, element_unique, value_unique, StartsMark}

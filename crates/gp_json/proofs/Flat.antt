@@ -1,9 +1,9 @@
 -- A text whose value is not too deep does not nest too deep.
 use Rattle.std.proofs.Common.{◌≡◌, inl, inr, ℕ, zero, suc, ◌<◌, ◌≤◌, List, [], ◌∷◌, ◌++◌, refl, sym, ap, ◌∙◌, subst, append_assoc, arith}
-use Rattle.gp_json.specs.Plain.{PlainTree, PlainTrees, PlainMembers, null, truth, number, text, list, members, no_items, item, no_members, member}
+use Rattle.gp_tree.specs.Plain.{PlainTree, PlainTrees, PlainMembers, null, truth, number, text, list, members, no_items, item, no_members, member}
 use Rattle.gp_json.specs.Text.{quoted}
 use Rattle.gp_json.specs.Spelling.{IsValue, AreItems, AreMoreItems, AreMembers, AreMoreMembers, Spells}
-use Rattle.gp_json.specs.Sound.{depth, items_depth, members_depth, max_depth}
+use Rattle.gp_tree.specs.Sound.{depth, items_depth, members_depth, max_depth}
 use Rattle.gp_json.specs.Fault.{IsTooDeep}
 use Rattle.gp_json.specs.Reading.{EndsSpace, BeginsValue, BeginsMember}
 use Rattle.gp_json.specs.Deep.{Past, IsItem, Keyed, IsDeep}

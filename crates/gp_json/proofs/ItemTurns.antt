@@ -1,8 +1,8 @@
 -- The turns of the loop over the items of a list.
 use Rattle.std.proofs.Common.{◌≡◌, inl, inr, ℕ, zero, suc, ◌-◌, ◌<◌, List, [], ◌∷◌, ◌++◌, refl, sym, ap, ◌∙◌, subst, append_assoc, arith}
-use Rattle.gp_json.specs.declared.tree.Tree.{Tree}
-use Rattle.gp_json.specs.Plain.{PlainTree, PlainTrees, list, no_items, item, plain, plain_items}
-use Rattle.gp_json.specs.Lexical.{IsSpace}
+use Rattle.gp_tree.specs.declared.tree.Tree.{Tree}
+use Rattle.gp_tree.specs.Plain.{PlainTree, PlainTrees, list, no_items, item, plain, plain_items}
+use Rattle.gp_tree.specs.Lexical.{IsSpace}
 use Rattle.gp_json.specs.Reading.{EndsSpace, BeginsValue, BeginsItems, BeginsElements, HasNone}
 use Rattle.gp_json.specs.declared.fault.JsonFault.TheVariants.{NotJson}
 use Rattle.gp_json.specs.declared.fault.JsonRefusal.{JsonRefusal}

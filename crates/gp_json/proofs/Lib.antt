@@ -14,26 +14,9 @@ pub mod Texts
 pub mod Deep
 pub mod DeepFronts
 pub mod Refusals
-pub mod SortedKeys
-pub mod Distinct
-pub mod PlainKeys
 pub mod Spelled
 pub mod Utf8Texts
-pub mod Looks
-pub mod Chars
-pub mod Firsts
-pub mod Asciis
-pub mod Edited
-pub mod Lent
-pub mod Inner
-pub mod Kept
-pub mod Parts
 pub mod Flat
 pub mod Outcomes
 pub mod Exits
 mod Worked
-pub mod Wholes
-pub mod Names
-pub mod InTree
-pub mod NamedAnywhere
-pub mod KeysUnder

@@ -1,10 +1,10 @@
 -- The turns of the loop over the members of an object.
 use Rattle.std.proofs.Common.{◌≡◌, inl, inr, ℕ, zero, suc, ◌-◌, ◌<◌, List, [], ◌∷◌, ◌++◌, refl, sym, ap, ◌∙◌, subst, append_assoc, arith}
-use Rattle.gp_json.specs.declared.tree.Member.{Member}
-use Rattle.gp_json.specs.Plain.{PlainTree, PlainMembers, members, no_members, member, plain_member, plain_entries}
+use Rattle.gp_tree.specs.declared.tree.Member.{Member}
+use Rattle.gp_tree.specs.Plain.{PlainTree, PlainMembers, members, no_members, member, plain_member, plain_entries}
 use Rattle.std.specs.List.{concat}
 use Rattle.std.proofs.lemmas.List.{append_cancel_left}
-use Rattle.gp_json.specs.Lexical.{IsSpace, IsChars, IsString}
+use Rattle.gp_tree.specs.Lexical.{IsSpace, IsChars, IsString}
 use Rattle.gp_json.specs.Text.{quoted}
 use Rattle.gp_json.specs.declared.fault.JsonFault.TheVariants.{NotJson}
 use Rattle.gp_json.specs.declared.fault.JsonRefusal.{JsonRefusal}

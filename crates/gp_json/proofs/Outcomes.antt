@@ -3,9 +3,9 @@ use Rattle.std.proofs.Common.{inl, inr, ℕ, ◌≤◌, List, ◌++◌, subst, a
 use Rattle.std.proofs.lemmas.Bool.{cases_lt}
 use Rattle.gp_json.specs.declared.fault.JsonFault.{JsonFault}
 use Rattle.gp_json.specs.declared.fault.JsonFault.TheVariants.{NotUtf8, TooDeep, NotJson, DuplicateKey}
-use Rattle.gp_json.specs.Plain.{PlainTree}
+use Rattle.gp_tree.specs.Plain.{PlainTree}
 use Rattle.gp_json.specs.Spelling.{Spells}
-use Rattle.gp_json.specs.Sound.{IsSound, HasDistinctKeys, depth, max_depth}
+use Rattle.gp_tree.specs.Sound.{IsSound, HasDistinctKeys, depth, max_depth}
 use Rattle.gp_json.specs.Fault.{IsTooDeep, HasFault}
 use Rattle.gp_json.proofs.Deep.{value_deep}
 use Rattle.gp_json.proofs.DeepFronts.{too_deep}

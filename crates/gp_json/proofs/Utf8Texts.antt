@@ -1,8 +1,8 @@
 -- What spells a value is UTF-8.
 use Rattle.std.proofs.Common.{◌≡◌, ℕ, zero, suc, ◌<◌, true, false, List, [], ◌∷◌, ◌++◌, codes, refl, sym, subst, arith, IsAscii, IsUtf8}
 use Rattle.std.proofs.lemmas.Str.{IsUtf8-append, IsUtf8-from_ascii, IsUtf8-nil}
-use Rattle.gp_json.specs.Plain.{PlainTree, PlainTrees, PlainMembers, null, truth, number, text, list, members, no_items, item, no_members, member}
-use Rattle.gp_json.specs.Lexical.{Each, IsBlank, IsSpace}
+use Rattle.gp_tree.specs.Plain.{PlainTree, PlainTrees, PlainMembers, null, truth, number, text, list, members, no_items, item, no_members, member}
+use Rattle.gp_tree.specs.Lexical.{Each, IsBlank, IsSpace}
 use Rattle.gp_json.specs.Spelling.{IsQuoted, IsMember, IsValue, AreItems, AreMoreItems, AreMembers, AreMoreMembers, Spells}
 use Rattle.gp_json.proofs.Unique.{each_more, number_bytes}
 use Rattle.gp_json.proofs.Leaves.{number_ascii}

@@ -1,6 +1,6 @@
 // What is left of a text while it is read, a token at a time.
 ghost use Rattle.std.specs.Prelude.{◌≡◌, ◌<◌, ◌≤◌, ◌⊎◌, ℕ, List, [], ◌∷◌, ◌++◌, length, take, drop, true, false, MatchOption, IsTrue, ◌↔◌, OnOk, IfSome};
-ghost use Rattle.gp_json.specs.Lexical.{Each, IsSpace, IsChar, IsChars, IsNumber, IsString};
+ghost use Rattle.gp_tree.specs.Lexical.{Each, IsSpace, IsChar, IsChars, IsNumber, IsString};
 ghost use Rattle.std.specs.Str.{IsUtf8};
 ghost use Rattle.gp_json.specs.Reading.{EndsSpace, EndsNumber, IsNumberByte, BeginsNumber, BeginsString, HasNone};
 

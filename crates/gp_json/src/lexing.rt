@@ -1,6 +1,6 @@
 // How long the white space, number or string is that a text begins with.
 ghost use Rattle.std.specs.Prelude.{◌≡◌, ◌<◌, ◌≤◌, ◌⊎◌, ◌↔◌, ℕ, ◌+◌, List, [], ◌∷◌, ◌++◌, length, take, drop, IsTrue, IfSome, MatchOption};
-ghost use Rattle.gp_json.specs.Lexical.{Each, IsBlank, IsDigit, IsDigits, IsEscaped, IsHexDigit, IsSpace, IsExp, IsNumber, IsUnescaped, IsChar, IsChars};
+ghost use Rattle.gp_tree.specs.Lexical.{Each, IsBlank, IsDigit, IsDigits, IsEscaped, IsHexDigit, IsSpace, IsExp, IsNumber, IsUnescaped, IsChar, IsChars};
 ghost use Rattle.gp_json.specs.Reading.{IsNumberByte, HasHexDigits, EndsDigits, IsUnsigned, IsFraction, EndsSpace, EndsNumber, BeginsString, HasNone};
 
 // How many bytes of a string are tested at once: as many as the compiler tests in two vectors.

@@ -1,13 +1,12 @@
 // The compact text of a tree.
 ghost use Rattle.std.specs.Prelude.{◌≡◌, ◌++◌, IfOk, OnOk};
-ghost use Rattle.gp_json.specs.Plain.{plain, plain_member, plain_items, plain_entries};
-ghost use Rattle.gp_json.specs.Sound.{IsSpelled};
+ghost use Rattle.gp_tree.specs.Plain.{plain, plain_member, plain_items, plain_entries};
+ghost use Rattle.gp_tree.specs.Sound.{IsSpelled};
 ghost use Rattle.gp_json.specs.Spelling.{Spells};
 ghost use Rattle.gp_json.specs.Text.{quoted, text_of, items_text, member_text, members_text};
 
-use crate::lexeme::Lexeme;
-use crate::tree::{Member, Tree};
 use gp_host::NoMemory;
+use gp_tree::{Lexeme, Member, Tree};
 use std::alloc::{AllocError, Global};
 
 /// The compact text of a tree: no white space outside strings, each number, string and key as it is

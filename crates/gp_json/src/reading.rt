@@ -1,19 +1,17 @@
 // Reading a text as a tree, or as its first fault.
 ghost use Rattle.std.specs.Prelude.{◌≡◌, ◌⊎◌, ◌≤◌, ◌∷◌, ℕ, List, Err, IfOk, IfErr, MatchResult};
-ghost use Rattle.gp_json.specs.Plain.{PlainTree, PlainTrees, PlainMembers, plain, plain_member, plain_items, plain_entries};
+ghost use Rattle.gp_tree.specs.Plain.{PlainTree, PlainTrees, PlainMembers, plain, plain_member, plain_items, plain_entries};
 ghost use Rattle.gp_json.specs.declared.fault.JsonFault.{JsonFault};
-ghost use Rattle.gp_json.specs.Sound.{depth, max_depth, IsSound};
+ghost use Rattle.gp_tree.specs.Sound.{depth, max_depth, IsSound};
 ghost use Rattle.gp_json.specs.Fault.{IsTooDeep, HasFault};
 ghost use Rattle.gp_json.specs.Deep.{Past, IsItem, Keyed, IsDeep, Tells};
 ghost use Rattle.gp_json.specs.Spelling.{Spells};
-ghost use Rattle.gp_json.specs.Lexical.{IsString};
+ghost use Rattle.gp_tree.specs.Lexical.{IsString};
 ghost use Rattle.gp_json.specs.Reading.{BeginsString, BeginsValue, BeginsItems, BeginsMember, BeginsMembers, HasNone};
 
 use crate::cursor::Cursor;
 use crate::fault::{JsonFault, JsonRefusal};
-use crate::keys::has_distinct_keys;
-use crate::lexeme::Lexeme;
-use crate::tree::{Member, Members, Tree, Trees};
+use gp_tree::{Lexeme, Member, Members, Tree, Trees};
 use simdutf8::compat::from_utf8;
 use std::alloc::Global;
 
@@ -46,7 +44,7 @@ pub fn read(alloc: Global, text: &[u8]) -> Result<Tree, JsonRefusal>
         Err(_) => return Err(JsonRefusal::Fault(JsonFault::NotUtf8)),
     };
     let tree = parse(alloc, text)?;
-    match has_distinct_keys(alloc, &tree) {
+    match tree.has_distinct_keys(alloc) {
         Ok(true) => Ok(tree),
         Ok(false) => Err(JsonRefusal::Fault(JsonFault::DuplicateKey)),
         Err(_) => Err(JsonRefusal::Memory),
@@ -207,8 +205,8 @@ fn read_string(alloc: Global, text: &mut Cursor) -> Result<Lexeme, JsonRefusal>
     let Some(string) = text.string() else {
         return Err(NOT_JSON);
     };
-    match string.to_vec(alloc) {
-        Ok(bytes) => Ok(Lexeme::from_vec(bytes)),
+    match Lexeme::from_slice(alloc, string) {
+        Ok(lexeme) => Ok(lexeme),
         Err(_) => Err(JsonRefusal::Memory),
     }
 }
@@ -238,8 +236,8 @@ fn read_leaf(alloc: Global, text: &mut Cursor, depth: usize) -> Result<Tree, Jso
     let Some(number) = text.number() else {
         return Err(NOT_JSON);
     };
-    match number.to_vec(alloc) {
-        Ok(bytes) => Ok(Tree::Number(Lexeme::from_vec(bytes))),
+    match Lexeme::from_slice(alloc, number) {
+        Ok(lexeme) => Ok(Tree::Number(lexeme)),
         Err(_) => Err(JsonRefusal::Memory),
     }
 }

@@ -1,3 +1,5 @@
+pub mod Bounds
 pub mod Parts
 pub mod Rows
+pub mod Buffers
 mod Examples

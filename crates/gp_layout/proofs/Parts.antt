@@ -2,22 +2,21 @@
 use Rattle.std.proofs.Common.{◌≡◌, ℕ, zero, suc, ◌+◌, ◌-◌, ◌%◌, Option, ◌≤◌, List, [], ◌∷◌, ◌++◌, length, map, take, drop, replicate, slice_get, Some, refl, sym, ap, ◌∙◌, append_assoc, append-nil, arith}
 use Rattle.std.proofs.lemmas.List.{length-append, length-replicate}
 use Rattle.std.proofs.Math.Seq.{take-append_seam, drop-append_seam}
-use Rattle.gp_layout.specs.Layout.{aligned, starts_behind, starts, end_behind, end, laid_behind, laid}
+use Rattle.gp_rules.specs.Sizes.{padded}
+use Rattle.gp_layout.specs.Layout.{starts_behind, starts, end_behind, end, laid_behind, laid}
+use Rattle.gp_layout.proofs.Bounds.{padded_least}
 
-aligned_past : (at : ℕ) → at ≤ aligned at
-aligned_past at = omega arith
-
-gap_length : (at : ℕ) (part : List ℕ) → length (replicate (aligned at - at) 0 ++ part) ≡ aligned at - at + length part
+gap_length : (at : ℕ) (part : List ℕ) → length (replicate (padded at - at) 0 ++ part) ≡ padded at - at + length part
 gap_length at part =
-    let a = length-append (replicate (aligned at - at) 0) part in
-    let b = length-replicate {A = ℕ} (aligned at - at) 0 in
+    let a = length-append (replicate (padded at - at) 0) part in
+    let b = length-replicate {A = ℕ} (padded at - at) 0 in
     omega (arith, a, b)
 
 -- ---- lengths
 
 pub length_starts_behind : (at : ℕ) (lengths : List ℕ) → length (starts_behind at lengths) ≡ length lengths
 length_starts_behind at [] = refl
-length_starts_behind at (n ∷ lengths) = ap suc (length_starts_behind (aligned at + n) lengths)
+length_starts_behind at (n ∷ lengths) = ap suc (length_starts_behind (padded at + n) lengths)
 
 pub length_starts : (lengths : List ℕ) → length (starts lengths) ≡ length lengths
 length_starts = length_starts_behind 0
@@ -25,10 +24,10 @@ length_starts = length_starts_behind 0
 pub length_laid_behind : (at : ℕ) (parts : List (List ℕ)) → at + length (laid_behind at parts) ≡ end_behind at (map length parts)
 length_laid_behind at [] = omega arith
 length_laid_behind at (part ∷ parts) =
-    let a = length-append (replicate (aligned at - at) 0 ++ part) (laid_behind (aligned at + length part) parts) in
+    let a = length-append (replicate (padded at - at) 0 ++ part) (laid_behind (padded at + length part) parts) in
     let b = gap_length at part in
-    let c = length_laid_behind (aligned at + length part) parts in
-    omega (arith, a, b, c, aligned_past at)
+    let c = length_laid_behind (padded at + length part) parts in
+    omega (arith, a, b, c, padded_least at)
 
 pub length_laid : (parts : List (List ℕ)) → length (laid parts) ≡ end (map length parts)
 length_laid parts = omega (arith, length_laid_behind 0 parts)
@@ -37,18 +36,18 @@ length_laid parts = omega (arith, length_laid_behind 0 parts)
 
 pub laid_push : (at : ℕ) (parts : List (List ℕ)) (part : List ℕ)
     → laid_behind at (parts ++ part ∷ [])
-    ≡ laid_behind at parts ++ (replicate (aligned (end_behind at (map length parts)) - end_behind at (map length parts)) 0 ++ part)
-laid_push at [] part = append-nil (replicate (aligned at - at) 0 ++ part)
+    ≡ laid_behind at parts ++ (replicate (padded (end_behind at (map length parts)) - end_behind at (map length parts)) 0 ++ part)
+laid_push at [] part = append-nil (replicate (padded at - at) 0 ++ part)
 laid_push at (first ∷ parts) part =
-    let front : List ℕ = replicate (aligned at - at) 0 ++ first in
-    let past : ℕ = aligned at + length first in
+    let front : List ℕ = replicate (padded at - at) 0 ++ first in
+    let past : ℕ = padded at + length first in
     let e : ℕ = end_behind past (map length parts) in
-    ap (λ l. front ++ l) (laid_push past parts part) ∙ sym (append_assoc front (laid_behind past parts) (replicate (aligned e - e) 0 ++ part))
+    ap (λ l. front ++ l) (laid_push past parts part) ∙ sym (append_assoc front (laid_behind past parts) (replicate (padded e - e) 0 ++ part))
 
 pub starts_push : (at : ℕ) (parts : List (List ℕ)) (part : List ℕ)
-    → starts_behind at (map length (parts ++ part ∷ [])) ≡ starts_behind at (map length parts) ++ aligned (end_behind at (map length parts)) ∷ []
+    → starts_behind at (map length (parts ++ part ∷ [])) ≡ starts_behind at (map length parts) ++ padded (end_behind at (map length parts)) ∷ []
 starts_push at [] part = refl
-starts_push at (first ∷ parts) part = ap (λ l. aligned at ∷ l) (starts_push (aligned at + length first) parts part)
+starts_push at (first ∷ parts) part = ap (λ l. padded at ∷ l) (starts_push (padded at + length first) parts part)
 
 -- ---- where a part is found
 
@@ -57,14 +56,14 @@ abbrev pub Splits : ℕ → List (List ℕ) → List ℕ → ℕ → Type 0
 Splits at parts part start = (front : List ℕ) × (back : List ℕ) × (laid_behind at parts ≡ front ++ (part ++ back)) × (at + length front ≡ start)
 
 splits_first : (at : ℕ) (first : List ℕ) (parts : List (List ℕ)) (part : List ℕ) (start : ℕ)
-    → Some first ≡ Some part → ◌≡◌ {A = Option ℕ} (Some (aligned at)) (Some start) → Splits at (first ∷ parts) part start
+    → Some first ≡ Some part → ◌≡◌ {A = Option ℕ} (Some (padded at)) (Some start) → Splits at (first ∷ parts) part start
 splits_first at first parts part start e f =
     let same : first ≡ part = cc in
-    let begins : aligned at ≡ start = cc in
-    let zeros : List ℕ = replicate (aligned at - at) 0 in
-    let back : List ℕ = laid_behind (aligned at + length first) parts in
+    let begins : padded at ≡ start = cc in
+    let zeros : List ℕ = replicate (padded at - at) 0 in
+    let back : List ℕ = laid_behind (padded at + length first) parts in
     let h : laid_behind at (first ∷ parts) ≡ zeros ++ (part ++ back) = append_assoc zeros first back ∙ ap (λ y. zeros ++ (y ++ back)) same in
-    let n : at + length zeros ≡ start = omega (arith, length-replicate {A = ℕ} (aligned at - at) 0, aligned_past at, begins) in
+    let n : at + length zeros ≡ start = omega (arith, length-replicate {A = ℕ} (padded at - at) 0, padded_least at, begins) in
     (zeros, back, h, n)
 
 pub splits : (at : ℕ) (parts : List (List ℕ)) (i : ℕ) (part : List ℕ) (start : ℕ)
@@ -72,10 +71,10 @@ pub splits : (at : ℕ) (parts : List (List ℕ)) (i : ℕ) (part : List ℕ) (s
 splits at [] i part start e f = absurd (cc)
 splits at (first ∷ parts) zero part start e f = splits_first at first parts part start e f
 splits at (first ∷ parts) (suc i) part start e f =
-    let before : List ℕ = replicate (aligned at - at) 0 ++ first in
-    let s = splits (aligned at + length first) parts i part start e f in
+    let before : List ℕ = replicate (padded at - at) 0 ++ first in
+    let s = splits (padded at + length first) parts i part start e f in
     let h : laid_behind at (first ∷ parts) ≡ (before ++ s.0) ++ (part ++ s.1) = ap (λ l. before ++ l) s.2 ∙ sym (append_assoc before s.0 (part ++ s.1)) in
-    let n : at + length (before ++ s.0) ≡ start = omega (arith, length-append before s.0, gap_length at first, aligned_past at, s.3) in
+    let n : at + length (before ++ s.0) ≡ start = omega (arith, length-append before s.0, gap_length at first, padded_least at, s.3) in
     (before ++ s.0, s.1, h, n)
 
 -- the part is there, also where more bytes follow
@@ -108,5 +107,5 @@ part_within parts i part start e f =
 -- each part begins at a multiple of 4
 pub start_aligned : (at : ℕ) (lengths : List ℕ) (i start : ℕ) → slice_get (starts_behind at lengths) i ≡ Some start → start % 4 ≡ 0
 start_aligned at [] i start e = absurd (cc)
-start_aligned at (n ∷ lengths) zero start e = let f : aligned at ≡ start = cc in omega (arith, f)
-start_aligned at (n ∷ lengths) (suc i) start e = start_aligned (aligned at + n) lengths i start e
+start_aligned at (n ∷ lengths) zero start e = let f : padded at ≡ start = cc in omega (arith, f)
+start_aligned at (n ∷ lengths) (suc i) start e = start_aligned (padded at + n) lengths i start e

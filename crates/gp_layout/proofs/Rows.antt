@@ -5,26 +5,27 @@ use Rattle.std.proofs.lemmas.Option.{slice_get-get_or}
 use Rattle.std.proofs.lemmas.List.Elements.{All-get_or}
 use Rattle.std.specs.Option.{option_and_then}
 use Rattle.gp_asset.specs.Contents.{bytes_at}
-use Rattle.gp_layout.specs.Layout.{aligned, starts, end, laid}
-use Rattle.gp_layout.specs.Row.{RowParts, row_of, padded, with_part, HasEach, held}
+use Rattle.gp_rules.specs.Sizes.{padded}
+use Rattle.gp_layout.specs.Layout.{starts, end, laid}
+use Rattle.gp_layout.specs.Row.{RowParts, row_of, zero_padded, with_part, HasEach, held}
 use Rattle.gp_layout.proofs.Parts.{length_laid, laid_push, starts_push}
 
-bytes_push : (parts : List (List ℕ)) (part : List ℕ) → laid (parts ++ part ∷ []) ≡ padded (laid parts) ++ part
+bytes_push : (parts : List (List ℕ)) (part : List ℕ) → laid (parts ++ part ∷ []) ≡ zero_padded (laid parts) ++ part
 bytes_push parts part =
     let e : length (laid parts) ≡ end (map length parts) = length_laid parts in
     laid_push 0 parts part
-    ∙ ap (λ n. laid parts ++ (replicate (aligned n - n) 0 ++ part)) (sym e)
-    ∙ sym (append_assoc (laid parts) (replicate (aligned (length (laid parts)) - length (laid parts)) 0) part)
+    ∙ ap (λ n. laid parts ++ (replicate (padded n - n) 0 ++ part)) (sym e)
+    ∙ sym (append_assoc (laid parts) (replicate (padded (length (laid parts)) - length (laid parts)) 0) part)
 
-starts_more : (parts : List (List ℕ)) (part : List ℕ) → starts (map length (parts ++ part ∷ [])) ≡ starts (map length parts) ++ aligned (length (laid parts)) ∷ []
-starts_more parts part = starts_push 0 parts part ∙ ap (λ n. starts (map length parts) ++ aligned n ∷ []) (sym (length_laid parts))
+starts_more : (parts : List (List ℕ)) (part : List ℕ) → starts (map length (parts ++ part ∷ [])) ≡ starts (map length parts) ++ padded (length (laid parts)) ∷ []
+starts_more parts part = starts_push 0 parts part ∙ ap (λ n. starts (map length parts) ++ padded n ∷ []) (sym (length_laid parts))
 
 -- one part more
 pub row_push : (parts : List (List ℕ)) (part : List ℕ) → row_of (parts ++ part ∷ []) ≡ with_part (row_of parts) part
 unfolding row_of
 row_push parts part =
     let made : List ℕ → List ℕ → RowParts = λ b s. record { bytes = b; starts = s } in
-    ap (λ b. made b (starts (map length (parts ++ part ∷ [])))) (bytes_push parts part) ∙ ap (made (padded (laid parts) ++ part)) (starts_more parts part)
+    ap (λ b. made b (starts (map length (parts ++ part ∷ [])))) (bytes_push parts part) ∙ ap (made (zero_padded (laid parts) ++ part)) (starts_more parts part)
 
 -- ---- views
 

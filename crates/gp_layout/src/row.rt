@@ -1,6 +1,6 @@
 // Parts in a row.
-ghost use Rattle.std.specs.Prelude.{◌≡◌, IfOk, OnOk};
-ghost use Rattle.gp_layout.specs.Row.{row_of, with_part, padded, HasEach, held};
+ghost use Rattle.std.specs.Prelude.{◌≡◌, ℕ, List, option_map, IfOk, OnOk};
+ghost use Rattle.gp_layout.specs.Row.{row_of, laid_buffer, buffer_length, with_part, zero_padded, HasEach, held};
 
 use gp_asset::ViewBytes;
 use gp_host::NoMemory;
@@ -64,6 +64,28 @@ impl Row {
         self.starts.as_slice()
     }
 
+    /// The bytes of the one buffer that the row makes; none where it has no parts.
+    #[tactic(auto, unfolding(crate::specs::Row::laid_buffer))]
+    pub fn buffer(&self) -> Option<&[u8]>
+        ensures { (parts : List (List ℕ)) → self.now ≡ row_of parts → option_map (λ b. b.now) result ≡ laid_buffer parts }
+    {
+        if self.starts().is_empty() {
+            return None;
+        }
+        Some(self.bytes())
+    }
+
+    /// How many bytes that buffer has.
+    #[tactic(auto, unfolding(crate::specs::Row::buffer_length))]
+    pub fn buffer_length(&self) -> Option<u64>
+        ensures { (parts : List (List ℕ)) → self.now ≡ row_of parts → result ≡ buffer_length parts }
+    {
+        if self.starts().is_empty() {
+            return None;
+        }
+        Some(self.bytes().len() as u64)
+    }
+
     // Puts a part behind the others.
     fn append(&mut self, part: &[u8]) -> Result<(), NoMemory>
         ensures { OnOk result (self.new ≡ with_part self.old part.now) }
@@ -77,7 +99,7 @@ impl Row {
 
 // Puts zeros behind bytes, up to the next multiple of 4.
 fn pad(bytes: &mut Vec<u8>) -> Result<(), NoMemory>
-    ensures { OnOk result (bytes.new.items ≡ padded bytes.old.items) }
+    ensures { OnOk result (bytes.new.items ≡ zero_padded bytes.old.items) }
 {
     let past = bytes.len() % 4;
     if past > 0 {

@@ -1,7 +1,6 @@
 pub mod Edited
 pub mod Finishing
 pub mod PartsAt
-pub mod EachItem
 pub mod StoredPlaces
 pub mod StoredFields
 pub mod StoredRoots

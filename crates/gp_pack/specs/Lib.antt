@@ -5,7 +5,7 @@ pub mod Plan
 pub mod References
 pub mod GroupEdits
 pub mod ViewEdits
-pub mod Placing
+pub mod Placement
 pub mod Still
 pub mod Packed
 pub mod StoredParts

@@ -5,17 +5,17 @@ use Rattle.std.specs.List.{All, list_all, enumerate_from}
 use Rattle.std.proofs.lemmas.List.{take_more, take_all, length-take-le}
 use Rattle.std.proofs.lemmas.List.Elements.{All-get_or}
 use Rattle.std.proofs.lemmas.Option.{slice_get-get_or, slice_get-map}
-use Rattle.gp_asset.specs.declared.accessing.Accessor.{Accessor}
-use Rattle.gp_asset.specs.declared.storage.View.{View}
-use Rattle.gp_asset.specs.Accessors.{size_of}
-use Rattle.gp_asset.specs.Sizes.{component_size}
+use Rattle.gp_rules.specs.declared.accessing.Accessor.{Accessor}
+use Rattle.gp_rules.specs.declared.storage.View.{View}
+use Rattle.gp_rules.specs.Accessors.{size_of}
+use Rattle.gp_rules.specs.Sizes.{component_size}
 use Rattle.gp_asset.specs.Asset.{AssetParts}
 use Rattle.gp_asset.specs.Contents.{plain_bytes, plain_if, plain_views, bytes_at}
 use Rattle.gp_storage.specs.declared.coding.Stream.{Stream}
 use Rattle.gp_storage.specs.declared.shared.Common.TheVariants.{Same, Different}
 use Rattle.gp_storage.specs.declared.shared.Shared.{Shared}
 use Rattle.gp_storage.specs.Readers.{has_image, readers, one_size}
-use Rattle.gp_storage.specs.Coding.{coding_of, is_sequence}
+use Rattle.gp_storage.specs.Coding.{coding_of}
 use Rattle.gp_storage.specs.Shared.{common, one_of, shared_by, coding_with}
 use Rattle.gp_storage.specs.Streams.{stream_of, stored_views}
 use Rattle.gp_storage.proofs.ReadersSoFar.{map_more, numbered_behind}
@@ -32,7 +32,7 @@ one_common (one ∷ sizes) = by_test (list_all (λ other. other == one) sizes)
 
 chosen : (a : AssetParts) (moved : List Bool) (at : ℕ) (v : View)
     → coding_with (has_image a.images at) (shared_by a.uses (readers moved a.accessors at)) v (plain_bytes a.buffers v) ≡ coding_of a moved at v
-unfolding coding_with shared_by coding_of is_sequence
+unfolding coding_with shared_by coding_of
 chosen a moved at v =
     let rs = readers moved a.accessors at in
     rw (one_common (map (λ (r : ℕ × Accessor). component_size r.1.component) rs), one_common (map (λ (r : ℕ × Accessor). size_of r.1) rs)) refl

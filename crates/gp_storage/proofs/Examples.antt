@@ -1,9 +1,9 @@
 -- Worked values of the rule that says how a view may be coded.
 use Rattle.std.proofs.Common.{◌≡◌, ℕ, true, false, List, [], ◌∷◌, Some, None, refl}
-use Rattle.gp_asset.specs.declared.storage.StreamMode.TheVariants.{Attributes, Indices}
-use Rattle.gp_asset.specs.declared.accessing.Accessor.{Accessor}
-use Rattle.gp_asset.specs.declared.accessing.Component.TheVariants.{F32}
-use Rattle.gp_asset.specs.declared.accessing.Shape.TheVariants.{Vec3}
+use Rattle.gp_rules.specs.declared.storage.StreamMode.TheVariants.{Attributes, Indices}
+use Rattle.gp_rules.specs.declared.accessing.Accessor.{Accessor}
+use Rattle.gp_rules.specs.declared.accessing.Component.TheVariants.{F32}
+use Rattle.gp_rules.specs.declared.accessing.Shape.TheVariants.{Vec3}
 use Rattle.gp_asset.specs.declared.usage.AccessorUse.{AccessorUse}
 use Rattle.gp_asset.specs.declared.usage.Role.TheVariants.{Attribute, Indices as AsIndices}
 use Rattle.gp_storage.specs.Readers.{readers, one_size, is_index_list}

@@ -8,10 +8,10 @@ use Rattle.std.proofs.lemmas.List.{take_more, length-take-le}
 use Rattle.std.proofs.lemmas.List.Elements.{filter-append}
 use Rattle.std.proofs.lemmas.List.Folds.{list_all-append}
 use Rattle.std.proofs.lemmas.Option.{none-some}
-use Rattle.gp_asset.specs.declared.accessing.Accessor.{Accessor}
+use Rattle.gp_rules.specs.declared.accessing.Accessor.{Accessor}
 use Rattle.gp_asset.specs.declared.usage.AccessorUse.{AccessorUse}
-use Rattle.gp_asset.specs.Sizes.{component_size}
-use Rattle.gp_asset.specs.Accessors.{size_of}
+use Rattle.gp_rules.specs.Sizes.{component_size}
+use Rattle.gp_rules.specs.Accessors.{size_of}
 use Rattle.gp_storage.specs.declared.usage.Usage.{Usage}
 use Rattle.gp_storage.specs.declared.shared.Common.TheVariants.{Same, Different}
 use Rattle.gp_storage.specs.declared.shared.Shared.{Shared}

@@ -2,15 +2,15 @@
 use Rattle.std.specs.Prelude.{ℕ, ◌*◌, ◌/◌, ◌%◌, ◌^◌, Bool, true, false, ◌&&◌, ◌||◌, ◌==◌, nat_lt, if◌then◌else◌, List, map, length, is_none, Option, Some, None, option_and_then}
 use Rattle.std.specs.Option.{option_or}
 use Rattle.std.specs.List.{range_with_len, list_all}
-use Rattle.gp_asset.specs.declared.accessing.Accessor.{Accessor}
-use Rattle.gp_asset.specs.declared.storage.View.{View}
-use Rattle.gp_asset.specs.declared.storage.StreamMode.TheVariants.{Attributes, Indices}
+use Rattle.gp_rules.specs.declared.accessing.Accessor.{Accessor}
+use Rattle.gp_rules.specs.declared.storage.View.{View}
+use Rattle.gp_rules.specs.declared.storage.StreamMode.TheVariants.{Attributes, Indices}
 use Rattle.gp_asset.specs.declared.usage.AccessorUse.{AccessorUse}
-use Rattle.gp_asset.specs.Sizes.{component_size}
-use Rattle.gp_asset.specs.Accessors.{size_of}
+use Rattle.gp_rules.specs.Sizes.{component_size}
+use Rattle.gp_rules.specs.Accessors.{size_of}
 use Rattle.gp_asset.specs.Contents.{part, plain_bytes}
 use Rattle.gp_asset.specs.Asset.{AssetParts}
-use Rattle.gp_asset.specs.Views.{is_stride}
+use Rattle.gp_rules.specs.Views.{is_stride}
 use Rattle.gp_elements.specs.Elements.{number_of}
 use Rattle.gp_storage.specs.declared.coding.Coding.{Coding}
 use Rattle.gp_storage.specs.Readers.{has_image, readers, one_size, is_index_list}
@@ -21,19 +21,22 @@ numbers_in width bytes = map (λ i. number_of (part bytes (i * width) width)) (r
 
 -- ---- an index sequence
 
--- the numbers of `width` bytes may be an index sequence of which all readers are index lists
-unfoldable pub is_sequence : List AccessorUse → List (ℕ × Accessor) → View → List ℕ → ℕ → Bool
-is_sequence uses readers v bytes width =
-    list_all (λ (r : ℕ × Accessor). is_index_list uses r.0) readers
+-- the numbers of `width` bytes may be an index sequence, where it is given whether all readers are index lists
+abbrev pub is_sequence : Bool → View → List ℕ → ℕ → Bool
+is_sequence index_lists v bytes width =
+    index_lists
     && (width == 2 || width == 4)
     && is_none v.stride
     && v.length % width == 0
     && list_all (λ n. nat_lt n (2 ^ 30)) (numbers_in width bytes)
 
+abbrev pub are_index_lists : List AccessorUse → List (ℕ × Accessor) → Bool
+are_index_lists uses readers = list_all (λ (r : ℕ × Accessor). is_index_list uses r.0) readers
+
 -- the size of all components is the width
 abbrev pub sequence_width : List AccessorUse → List (ℕ × Accessor) → View → List ℕ → Option ℕ
 sequence_width uses readers v bytes =
-    option_and_then (λ width. if is_sequence uses readers v bytes width then Some width else None)
+    option_and_then (λ width. if is_sequence (are_index_lists uses readers) v bytes width then Some width else None)
     (one_size (map (λ (r : ℕ × Accessor). component_size r.1.component) readers))
 
 -- ---- attributes

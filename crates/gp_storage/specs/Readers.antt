@@ -1,7 +1,7 @@
 -- Who reads a buffer view (glTF 2.0, sections 5.1, 5.11 and 5.18).
 use Rattle.std.specs.Prelude.{ℕ, Bool, true, false, not, ◌&&◌, ◌==◌, if◌then◌else◌, List, [], ◌∷◌, filter, slice_get, unwrap_or, Option, Some, None}
 use Rattle.std.specs.List.{enumerate_from, list_any, list_all}
-use Rattle.gp_asset.specs.declared.accessing.Accessor.{Accessor}
+use Rattle.gp_rules.specs.declared.accessing.Accessor.{Accessor}
 use Rattle.gp_asset.specs.declared.usage.AccessorUse.{AccessorUse}
 use Rattle.gp_asset.specs.declared.usage.Role.{Role}
 use Rattle.gp_asset.specs.declared.usage.Role.TheVariants.{Indices}

@@ -1,21 +1,21 @@
 -- What is known of accessors and of the readers of a buffer view, as one after another is gone through.
-use Rattle.std.specs.Prelude.{ℕ, Bool, true, false, ◌&&◌, ◌||◌, ◌==◌, ◌%◌, ◌^◌, nat_lt, if◌then◌else◌, List, [], ◌∷◌, map, is_none, Option, Some, None, option_and_then}
+use Rattle.std.specs.Prelude.{ℕ, Bool, true, false, ◌&&◌, ◌==◌, nat_lt, if◌then◌else◌, List, [], ◌∷◌, map, Option, Some, None, option_and_then}
 use Rattle.std.specs.Option.{option_or}
 use Rattle.std.specs.List.{list_all}
-use Rattle.gp_asset.specs.declared.accessing.Accessor.{Accessor}
-use Rattle.gp_asset.specs.declared.storage.View.{View}
+use Rattle.gp_rules.specs.declared.accessing.Accessor.{Accessor}
+use Rattle.gp_rules.specs.declared.storage.View.{View}
 use Rattle.gp_asset.specs.declared.usage.AccessorUse.{AccessorUse}
 use Rattle.gp_asset.specs.declared.usage.Role.{Role}
-use Rattle.gp_asset.specs.Sizes.{component_size}
-use Rattle.gp_asset.specs.Accessors.{size_of}
+use Rattle.gp_rules.specs.Sizes.{component_size}
+use Rattle.gp_rules.specs.Accessors.{size_of}
 use Rattle.gp_storage.specs.declared.coding.Coding.{Coding}
 use Rattle.gp_storage.specs.declared.usage.Usage.{Usage}
 use Rattle.gp_storage.specs.declared.usage.Usage.TheVariants.{Unused, IndexList, Other}
 use Rattle.gp_storage.specs.declared.shared.Common.{Common}
 use Rattle.gp_storage.specs.declared.shared.Common.TheVariants.{Nothing, Same, Different}
 use Rattle.gp_storage.specs.declared.shared.Shared.{Shared}
-use Rattle.gp_storage.specs.Readers.{is_flagged, is_indices, uses_of, is_index_list}
-use Rattle.gp_storage.specs.Coding.{numbers_in, is_attributes, coding_by}
+use Rattle.gp_storage.specs.Readers.{is_flagged, is_indices, uses_of}
+use Rattle.gp_storage.specs.Coding.{is_sequence, are_index_lists, is_attributes, coding_by}
 
 -- a number that is below the count
 abbrev pub placed : ℕ → Option ℕ → Option ℕ
@@ -68,7 +68,7 @@ unfoldable pub shared_by : List AccessorUse → List (ℕ × Accessor) → Share
 shared_by uses readers = record {
   components = common (map (λ (r : ℕ × Accessor). component_size r.1.component) readers);
   elements = common (map (λ (r : ℕ × Accessor). size_of r.1) readers);
-  index_lists = list_all (λ (r : ℕ × Accessor). is_index_list uses r.0) readers;
+  index_lists = are_index_lists uses readers;
 }
 
 -- with one reader more
@@ -85,16 +85,8 @@ view_read moved at view views = if is_flagged moved at then None else placed vie
 
 -- ---- the rule, by what readers have in common
 
-abbrev pub is_sequence_by : Bool → View → List ℕ → ℕ → Bool
-is_sequence_by index_lists v bytes width =
-    index_lists
-    && (width == 2 || width == 4)
-    && is_none v.stride
-    && v.length % width == 0
-    && list_all (λ n. nat_lt n (2 ^ 30)) (numbers_in width bytes)
-
 abbrev pub sequence_by : Shared → View → List ℕ → Option ℕ
-sequence_by s v bytes = option_and_then (λ width. if is_sequence_by s.index_lists v bytes width then Some width else None) (one_of s.components)
+sequence_by s v bytes = option_and_then (λ width. if is_sequence s.index_lists v bytes width then Some width else None) (one_of s.components)
 
 abbrev pub attributes_by : Shared → View → Option ℕ
 attributes_by s v = option_and_then (λ stride. if is_attributes v stride then Some stride else None) (option_or v.stride (one_of s.elements))

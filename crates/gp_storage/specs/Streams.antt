@@ -4,9 +4,9 @@ use Rattle.std.specs.List.{enumerate_from}
 use Rattle.gp_groups.specs.WrittenAttributes.{encoded_attributes}
 use Rattle.gp_groups.specs.WrittenTriangles.{encoded_triangles}
 use Rattle.gp_groups.specs.WrittenSequence.{encoded_sequence}
-use Rattle.gp_asset.specs.declared.storage.View.{View}
-use Rattle.gp_asset.specs.declared.storage.StreamMode.{StreamMode}
-use Rattle.gp_asset.specs.declared.storage.StreamMode.TheVariants.{Attributes, Triangles, Indices}
+use Rattle.gp_rules.specs.declared.storage.View.{View}
+use Rattle.gp_rules.specs.declared.storage.StreamMode.{StreamMode}
+use Rattle.gp_rules.specs.declared.storage.StreamMode.TheVariants.{Attributes, Triangles, Indices}
 use Rattle.gp_asset.specs.Contents.{plain_bytes}
 use Rattle.gp_asset.specs.Asset.{AssetParts}
 use Rattle.gp_storage.specs.declared.coding.Coding.{Coding}

@@ -2,15 +2,15 @@
 ghost use Rattle.std.specs.Prelude.{◌≡◌, ◌⊎◌, ◌^◌, nat_lt, length, IfSome, true};
 ghost use Rattle.std.specs.List.{list_all};
 ghost use Rattle.gp_elements.specs.Elements.{number_of};
-ghost use Rattle.gp_asset.specs.Views.{is_stride, is_stride_in};
+ghost use Rattle.gp_rules.specs.Views.{is_stride, is_stride_in};
 ghost use Rattle.gp_storage.specs.declared.coding.Coding.{Coding as CodingFields};
-ghost use Rattle.gp_storage.specs.Coding.{numbers_in, is_attributes};
-ghost use Rattle.gp_storage.specs.Shared.{is_sequence_by, sequence_by, attributes_by, coding_with};
+ghost use Rattle.gp_storage.specs.Coding.{numbers_in, is_sequence, is_attributes};
+ghost use Rattle.gp_storage.specs.Shared.{sequence_by, attributes_by, coding_with};
 
 use crate::coding::Coding;
 use crate::shared::Shared;
 use byteorder::{ByteOrder, LittleEndian};
-use gp_asset::{StreamMode, View};
+use gp_rules::{StreamMode, View};
 
 // Every number of an index sequence is below this one.
 const NUMBER_END: u32 = 1 << 30;
@@ -56,7 +56,7 @@ fn sequence_width(view: &View, bytes: &[u8], shared: &Shared) -> Option<u32>
 }
 
 fn is_sequence(view: &View, bytes: &[u8], index_lists: bool, width: u32) -> bool
-    ensures { result ≡ is_sequence_by index_lists view.now bytes.now width }
+    ensures { result ≡ is_sequence index_lists view.now bytes.now width }
 {
     index_lists
         && (width == 2 || width == 4)

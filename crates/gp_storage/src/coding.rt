@@ -1,6 +1,6 @@
 // How a buffer view is stored.
-use gp_asset::StreamMode;
 use gp_host::Bytes;
+use gp_rules::StreamMode;
 
 /// What a stream of EXT_meshopt_compression holds.
 #[derive(Clone, Copy, Debug, PartialEq, Eq)]

@@ -1,13 +1,13 @@
 // The stream of one buffer view.
 ghost use Rattle.std.specs.Prelude.{◌≡◌, ◌≤◌, ◌%◌, ◌/◌, length, nat_lt, if◌then◌else◌, IfOk, IfSome, Some, None, true};
-ghost use Rattle.gp_asset.specs.Views.{is_stride_in};
+ghost use Rattle.gp_rules.specs.Views.{is_stride_in};
 ghost use Rattle.gp_groups.specs.WrittenAttributes.{encoded_attributes};
 ghost use Rattle.gp_storage.specs.declared.coding.Coding.{Coding as CodingFields};
 ghost use Rattle.gp_storage.specs.Streams.{stream_of};
 
 use crate::coding::{Coding, Stream};
-use gp_asset::StreamMode;
 use gp_host::{Bytes, NoMemory};
+use gp_rules::StreamMode;
 use gp_vertex::encode_attributes;
 use std::alloc::Global;
 

@@ -3,9 +3,9 @@ ghost use Rattle.std.specs.Prelude.{◌≡◌, List, []};
 ghost use Rattle.gp_asset.specs.declared.usage.AccessorUse.{AccessorUse};
 ghost use Rattle.gp_storage.specs.Shared.{with_size, one_of, shared_by, with_reader};
 
-use gp_asset::{Accessor, element_size};
-
 /// What sizes have in common.
+use gp_rules::{Accessor, element_size};
+
 #[derive(Clone, Copy)]
 pub(crate) enum Common {
     /// There is none.

@@ -1,7 +1,7 @@
 // Storing the views of an asset.
 ghost use Rattle.std.specs.Prelude.{◌≡◌, IfOk, None};
 ghost use Rattle.std.specs.List.{All};
-ghost use Rattle.gp_asset.specs.declared.storage.View.{View as PlainView};
+ghost use Rattle.gp_rules.specs.declared.storage.View.{View as PlainView};
 ghost use Rattle.gp_storage.specs.Shared.{coding_with};
 ghost use Rattle.gp_storage.specs.Streams.{stream_of, stored_views};
 
@@ -12,8 +12,9 @@ use crate::images::image_views;
 use crate::readers::shared_by_readers;
 use crate::shared::Shared;
 use crate::stored::StoredViews;
-use gp_asset::{Asset, View, ViewBytes};
+use gp_asset::{Asset, ViewBytes};
 use gp_host::NoMemory;
+use gp_rules::View;
 use std::alloc::Global;
 
 /// The streams of the views of an asset, none of which is compressed yet, where the flagged accessors move: each view as

@@ -1,11 +1,12 @@
 //! Small assets in which each view holds zeros, and which of their views are stored as streams.
 ghost use Rattle.std.specs.Prelude.{◌≡◌, None, true};
 ghost use Rattle.std.specs.List.{All};
-ghost use Rattle.gp_asset.specs.declared.storage.View.{View as PlainView};
+ghost use Rattle.gp_rules.specs.declared.storage.View.{View as PlainView};
 
 use crate::{StoredViews, store_views};
-use gp_asset::{Form, Refusal, StreamMode, View, read_asset};
+use gp_asset::{Form, Refusal, read_asset};
 use gp_json::read;
+use gp_rules::{StreamMode, View};
 use std::alloc::Global;
 use std::test::Fail;
 

@@ -7,24 +7,26 @@ use Rattle.std.proofs.lemmas.Bool.{or_parts, or_from, le-ltb}
 use Rattle.std.proofs.lemmas.List.Sums.{sum-map}
 use Rattle.std.proofs.lemmas.Option.{slice_get-map}
 use Rattle.gp_fields.specs.Fields.{BufferFields, ViewFields, AccessorFields}
-use Rattle.gp_layout.specs.Layout.{aligned, starts_behind, starts, end_behind, end, laid}
-use Rattle.gp_asset.specs.declared.fault.AssetFault.TheVariants.{View as BadView, Buffer, Accessor as BadAccessor}
-use Rattle.gp_asset.specs.declared.storage.View.{View}
-use Rattle.gp_asset.specs.declared.accessing.Accessor.{Accessor}
-use Rattle.gp_asset.specs.declared.accessing.Sparse.{Sparse}
-use Rattle.gp_asset.specs.Sizes.{component_size}
-use Rattle.gp_asset.specs.Checks.{Checked, ◌>>=◌, unless, each}
-use Rattle.gp_asset.specs.Views.{is_bad_view, is_stride_of_view, view_of}
-use Rattle.gp_asset.specs.Views.{runs_past as view_runs_past}
+use Rattle.gp_layout.specs.Layout.{starts_behind, starts, end_behind, end, laid}
+use Rattle.gp_layout.proofs.Bounds.{end_least}
+use Rattle.gp_layout.proofs.Parts.{length_laid_behind}
+use Rattle.gp_rules.specs.declared.fault.AssetFault.TheVariants.{View as BadView, Buffer, Accessor as BadAccessor}
+use Rattle.gp_rules.specs.declared.storage.View.{View}
+use Rattle.gp_rules.specs.declared.accessing.Accessor.{Accessor}
+use Rattle.gp_rules.specs.declared.accessing.Sparse.{Sparse}
+use Rattle.gp_rules.specs.Sizes.{component_size, padded}
+use Rattle.gp_fields.specs.Record.{◌>>=◌}
+use Rattle.gp_rules.specs.Checks.{Checked, unless, each}
+use Rattle.gp_rules.specs.Views.{is_bad_view, is_stride_of_view, view_of}
+use Rattle.gp_rules.specs.Views.{runs_past as view_runs_past}
 use Rattle.gp_asset.specs.Buffers.{buffer_of, buffer_bytes, bytes_if, is_needed}
-use Rattle.gp_asset.specs.Accessors.{accessor_of, accepted, known_accessor, is_bad_accessor, is_bad_sparse, is_index, runs_past, size_of, view_at, view_length, load, padded_load, is_too_much}
+use Rattle.gp_rules.specs.Accessors.{accessor_of, accepted, known_accessor, is_bad_accessor, is_bad_sparse, is_index, runs_past, size_of, view_at, view_length, load, padded_load, is_too_much}
 use Rattle.gp_asset.specs.Asset.{RuledParts, by_rules}
 use Rattle.gp_unpack.specs.Laws.{RulesPassAgain, RulesPassWithoutViews}
-use Rattle.gp_edits.specs.ReadingBack.{plain_view_at as view_at_place, plain_views_at as views_at_places}
+use Rattle.gp_edits.specs.ReadingBack.{plain_view_fields, plain_views_fields}
 use Rattle.gp_unpack.specs.PlainFields.{one_buffer, plain_view_at, plain_views_at}
-use Rattle.gp_unpack.proofs.Shapes.{step, same, with_packed}
+use Rattle.gp_document.proofs.Few.{step, same, with_packed}
 use Rattle.gp_unpack.proofs.Drawn.{ViewHolds, view_holds, RulesHold, rules_hold, rules_pass}
-use Rattle.gp_unpack.proofs.Places.{laid_length, end_grows}
 
 -- ---- accessors see of views only their lengths and strides
 
@@ -104,7 +106,7 @@ same_load vs ws accessors e = ap (nat_lt (2 ^ 31)) (sym (bare_load vs accessors)
 
 plain_bare : (at : ℕ) (vs : List View) → map bare (plain_views_at (starts_behind at (map (λ (v : View). v.length) vs)) vs) ≡ map bare vs
 plain_bare at [] = refl
-plain_bare at (v ∷ vs) = ap (λ rest. bare v ∷ rest) (plain_bare (aligned at + v.length) vs)
+plain_bare at (v ∷ vs) = ap (λ rest. bare v ∷ rest) (plain_bare (padded at + v.length) vs)
 
 -- the lengths of views, as the fields say
 abbrev pub sizes : List ViewFields → List ℕ
@@ -120,7 +122,7 @@ buffer_passes fs n bytes needed room =
     ap (λ needed. bytes_if needed (Some bytes) 0 b >>= λ y. Ok (y ∷ [])) needed
     ∙ ap (λ short. (unless short (Buffer 0) (Ok bytes) >>= λ bytes. Ok (Some bytes)) >>= λ y. Ok (y ∷ [])) (le-ltb (length bytes) n room)
 
-first_needs : (fs : List ViewFields) → fs ≢ [] → is_needed (views_at_places (starts (sizes fs)) fs) 0 ≡ true
+first_needs : (fs : List ViewFields) → fs ≢ [] → is_needed (plain_views_fields (starts (sizes fs)) fs) 0 ≡ true
 unfolding is_needed
 first_needs [] some = absurd (some refl)
 first_needs (v ∷ fs) some = refl
@@ -128,29 +130,29 @@ first_needs (v ∷ fs) some = refl
 -- ---- the views
 
 one_passes : (n offset at : ℕ) (buffers : List BufferFields) (v : ViewFields) (y : View) → ViewHolds buffers at v y → offset + v.length ≤ n
-    → view_of (one_buffer n) at (view_at_place offset v) ≡ Ok (plain_view_at offset y)
+    → view_of (one_buffer n) at (plain_view_fields offset v) ≡ Ok (plain_view_at offset y)
 unfolding view_of is_bad_view
 one_passes n offset at buffers v y h room =
     let sound = (or_parts (v.length == 0 || not (is_stride_of_view v.stride)) (is_none v.packed && view_runs_past buffers v.buffer v.offset v.length) h.good).0 in
     let within : nat_lt n (offset + v.length) ≡ false = le-ltb n (offset + v.length) room in
-    let good : is_bad_view (one_buffer n) (view_at_place offset v) ≡ false = or_from (v.length == 0 || not (is_stride_of_view v.stride)) (nat_lt n (offset + v.length)) sound within in
+    let good : is_bad_view (one_buffer n) (plain_view_fields offset v) ≡ false = or_from (v.length == 0 || not (is_stride_of_view v.stride)) (nat_lt n (offset + v.length)) sound within in
     ap (λ bad. unless bad (BadView at) (Ok (plain_view_at offset (with_packed v y.packed)))) good ∙ ap (λ w. Ok (plain_view_at offset w)) h.own
 
 views_pass : (n at k : ℕ) (buffers : List BufferFields) (fs : List ViewFields) (vs : List View) → each (view_of buffers) k fs ≡ Ok vs
     → end_behind at (sizes fs) ≤ n
-    → each (view_of (one_buffer n)) k (views_at_places (starts_behind at (sizes fs)) fs) ≡ Ok (plain_views_at (starts_behind at (sizes fs)) vs)
+    → each (view_of (one_buffer n)) k (plain_views_fields (starts_behind at (sizes fs)) fs) ≡ Ok (plain_views_at (starts_behind at (sizes fs)) vs)
 views_pass n at k buffers [] vs e room = refl
 views_pass n at k buffers (v ∷ fs) vs e room =
     step (view_of buffers k v) (λ y. each (view_of buffers) (k + 1) fs >>= λ ys. Ok (y ∷ ys)) vs e (λ y one more.
     step (each (view_of buffers) (k + 1) fs) (λ ys. Ok (y ∷ ys)) vs more (λ ys others whole.
-    let behind = aligned at + v.length in
+    let behind = padded at + v.length in
     let lengths = sizes fs in
-    let first = one_passes n (aligned at) k buffers v y (view_holds buffers k v y one) (omega (arith, end_grows behind lengths, room)) in
+    let first = one_passes n (padded at) k buffers v y (view_holds buffers k v y one) (omega (arith, end_least behind lengths, room)) in
     let rest = views_pass n behind (k + 1) buffers fs ys others room in
-    let places = views_at_places (starts_behind behind lengths) fs in
+    let places = plain_views_fields (starts_behind behind lengths) fs in
     ap (λ r. r >>= λ z. each (view_of (one_buffer n)) (k + 1) places >>= λ zs. Ok (z ∷ zs)) first
-    ∙ ap (λ r. r >>= λ zs. Ok (plain_view_at (aligned at) y ∷ zs)) rest
-    ∙ ap (λ ws. Ok (plain_views_at (aligned at ∷ starts_behind behind lengths) ws)) (same (y ∷ ys) vs whole)))
+    ∙ ap (λ r. r >>= λ zs. Ok (plain_view_at (padded at) y ∷ zs)) rest
+    ∙ ap (λ ws. Ok (plain_views_at (padded at ∷ starts_behind behind lengths) ws)) (same (y ∷ ys) vs whole)))
 
 pub lengths_kept : (k : ℕ) (buffers : List BufferFields) (fs : List ViewFields) (vs : List View) → each (view_of buffers) k fs ≡ Ok vs
     → sizes fs ≡ map (λ (v : View). v.length) vs
@@ -169,11 +171,11 @@ again bytes lengths r = record { buffers = Some bytes ∷ []; views = plain_view
 
 pub pass_again : (buffers : List BufferFields) (fs : List ViewFields) (accessors : List AccessorFields) (bin : Option (List ℕ)) (r : RuledParts) (bytes : List ℕ)
     → RulesHold buffers fs accessors bin r → fs ≢ [] → end (sizes fs) ≤ length bytes
-    → by_rules (one_buffer (end (sizes fs))) (views_at_places (starts (sizes fs)) fs) accessors (Some bytes)
+    → by_rules (one_buffer (end (sizes fs))) (plain_views_fields (starts (sizes fs)) fs) accessors (Some bytes)
     ≡ Ok (again bytes (sizes fs) r)
 pass_again buffers fs accessors bin r bytes h some room =
     let lengths = sizes fs in
-    let views = views_at_places (starts lengths) fs in
+    let views = plain_views_fields (starts lengths) fs in
     let plain = plain_views_at (starts lengths) r.views in
     let kept : map bare plain ≡ map bare r.views = ap (λ ns. map bare (plain_views_at (starts ns) r.views)) (lengths_kept 0 buffers fs r.views h.all_views) ∙ plain_bare 0 r.views in
     rules_pass (one_buffer (end lengths)) views accessors (Some bytes) (again bytes lengths r) (record {
@@ -186,9 +188,9 @@ pass_again buffers fs accessors bin r bytes h some room =
 pub rules_pass_again : RulesPassAgain
 rules_pass_again buffers fs accessors bin r contents more e lengths some =
     let bytes = laid contents ++ more in
-    let long = laid_length 0 contents in
+    let long = length_laid_behind 0 contents in
     let room : end (map length contents) ≤ length bytes = omega (arith, long, length-append (laid contents) more) in
-    subst (λ ns. by_rules (one_buffer (end ns)) (views_at_places (starts ns) fs) accessors (Some bytes) ≡ Ok (again bytes ns r)) (sym lengths)
+    subst (λ ns. by_rules (one_buffer (end ns)) (plain_views_fields (starts ns) fs) accessors (Some bytes) ≡ Ok (again bytes ns r)) (sym lengths)
     (pass_again buffers fs accessors bin r bytes (rules_hold buffers fs accessors bin r e) some (subst (λ ns. end ns ≤ length bytes) lengths room))
 
 pub rules_pass_without_views : RulesPassWithoutViews

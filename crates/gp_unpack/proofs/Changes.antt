@@ -1,6 +1,6 @@
 -- Changes of views by their places.
 use Rattle.std.proofs.Common.{◌≡◌, List, [], ◌∷◌, map, refl, ap}
-use Rattle.gp_json.specs.Plain.{PlainTree}
+use Rattle.gp_tree.specs.Plain.{PlainTree}
 use Rattle.gp_edits.specs.Changes.{change_each, applied}
 
 -- changes made of values are the changes with these values

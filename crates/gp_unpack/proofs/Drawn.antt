@@ -1,20 +1,20 @@
 -- What the rules of an asset say of its parts, once they have let it through.
 use Rattle.std.proofs.Common.{◌≡◌, ℕ, suc, zero, ◌+◌, false, List, [], ◌∷◌, Option, Some, Result, Ok, Err, refl, sym, ap, subst, ◌∙◌, arith}
 use Rattle.std.specs.List.{slice_get}
-use Rattle.gp_json.specs.Plain.{PlainTree}
+use Rattle.gp_tree.specs.Plain.{PlainTree}
 use Rattle.gp_fields.specs.declared.fault.FieldFault.{FieldFault}
 use Rattle.gp_fields.specs.Fields.{BufferFields, ViewFields, AccessorFields}
-use Rattle.gp_fields.specs.Record.{AssetFields, asset_fields}
-use Rattle.gp_asset.specs.declared.fault.Form.{Form}
-use Rattle.gp_asset.specs.declared.fault.AssetFault.TheVariants.{View as BadView, TooMuchData}
-use Rattle.gp_asset.specs.declared.storage.View.{View}
-use Rattle.gp_asset.specs.Checks.{Checked, ◌>>=◌, unless, each}
-use Rattle.gp_asset.specs.Views.{is_bad_view, packed_of, view_of}
+use Rattle.gp_fields.specs.Record.{◌>>=◌, AssetFields, asset_fields}
+use Rattle.gp_asset.specs.declared.purpose.Form.{Form}
+use Rattle.gp_rules.specs.declared.fault.AssetFault.TheVariants.{View as BadView, TooMuchData}
+use Rattle.gp_rules.specs.declared.storage.View.{View}
+use Rattle.gp_rules.specs.Checks.{Checked, unless, each}
+use Rattle.gp_rules.specs.Views.{is_bad_view, packed_of, view_of}
 use Rattle.gp_asset.specs.Buffers.{buffer_of}
-use Rattle.gp_asset.specs.Accessors.{accessor_of, is_too_much}
+use Rattle.gp_rules.specs.Accessors.{accessor_of, is_too_much}
 use Rattle.gp_asset.specs.Extensions.{extensions_in_use, supported}
 use Rattle.gp_asset.specs.Asset.{AssetParts, RuledParts, asset, by_rules, parts, in_shape}
-use Rattle.gp_unpack.proofs.Shapes.{step, passes, same, with_packed, ruled_by, load_on, accessors_on, views_on, rules_on, supported_on}
+use Rattle.gp_document.proofs.Few.{step, passes, same, with_packed, ruled_by, load_on, accessors_on, views_on, rules_on, supported_on}
 
 -- ---- one item of a list
 

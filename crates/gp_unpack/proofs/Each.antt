@@ -1,24 +1,13 @@
 -- Contents view by view, up to the first fault.
-use Rattle.std.proofs.Common.{◌≡◌, ℕ, ◌+◌, ◌<◌, ◌≤◌, Result, Ok, Err, List, [], ◌∷◌, ◌++◌, length, get_or, drop, refl, sym, ap, ◌∙◌, append_assoc, append-nil}
-use Rattle.std.proofs.lemmas.List.{drop_more, drop_all}
-use Rattle.gp_asset.specs.declared.storage.View.{View}
+use Rattle.std.proofs.Common.{◌≡◌, ℕ, ◌+◌, ◌<◌, ◌≤◌, Result, Ok, Err, List, [], ◌∷◌, ◌++◌, length, get_or, drop, sym, ap, subst, ◌∙◌, append-nil}
+use Rattle.std.proofs.lemmas.List.{drop_more, drop_all, get_or_default}
+use Rattle.gp_rules.specs.declared.storage.View.{View}
 use Rattle.gp_asset.specs.declared.refusal.Refusal.{Refusal}
 use Rattle.gp_asset.specs.declared.refusal.Refusal.TheVariants.{Glb, Json, Asset, Stream, NotYet, OutputTooLarge, Memory}
 use Rattle.gp_asset.specs.Asset.{AssetParts}
-use Rattle.gp_unpack.specs.Contents.{FaultyView, at_view, joined, contents_of, contents_from, all_contents, Answers}
-
--- what was decoded, before the rest
-abbrev pub behind : {A : Type 0} → List A → Result (List A) FaultyView → Result (List A) FaultyView
-behind done (Ok rest) = Ok (done ++ rest)
-behind done (Err fault) = Err fault
-
-behind_none : {A : Type 0} (rest : Result (List A) FaultyView) → rest ≡ behind [] rest
-behind_none (Ok rest) = refl
-behind_none (Err fault) = refl
-
-behind_one : {A : Type 0} (done : List A) (y : A) (rest : Result (List A) FaultyView) → behind done (joined (Ok y) rest) ≡ behind (done ++ y ∷ []) rest
-behind_one done y (Ok rest) = ap Ok (sym (append_assoc done (y ∷ []) rest))
-behind_one done y (Err fault) = refl
+use Rattle.gp_rules.specs.Checks.{joined}
+use Rattle.gp_rules.proofs.Each.{behind, behind_none, behind_one}
+use Rattle.gp_unpack.specs.Contents.{FaultyView, at_view, contents_of, contents_from, all_contents, Answers}
 
 -- the contents, where some views are decoded
 abbrev pub with_rest : AssetParts → List (List ℕ) → ℕ → Result (List (List ℕ)) FaultyView
@@ -39,12 +28,20 @@ at_one a done k v one within is e =
     ∙ ap (λ r. behind done (joined r (contents_from a (k + 1) (drop (k + 1) a.views)))) e
 
 -- past a view without a fault
-pub next : (a : AssetParts) (done longer : List (List ℕ)) (k : ℕ) (v : View) (y : List ℕ)
+next : (a : AssetParts) (done longer : List (List ℕ)) (k : ℕ) (v : View) (y : List ℕ)
     → k < length a.views → v ≡ get_or a.views k v → at_view k (contents_of a v) ≡ Ok y → longer ≡ done ++ y ∷ []
     → all_contents a ≡ with_rest a done k → all_contents a ≡ with_rest a longer (k + 1)
 next a done longer k v y within is e more so_far =
     so_far ∙ at_one a done k v (Ok y) within is e ∙ behind_one done y (contents_from a (k + 1) (drop (k + 1) a.views))
     ∙ ap (λ ys. with_rest a ys (k + 1)) (sym more)
+
+-- past the view that a list of them has at this place
+pub past : (a : AssetParts) (views : List View) (done longer : List (List ℕ)) (k : ℕ) (d : View) (y : List ℕ)
+    → views ≡ a.views → k < length views → at_view k (contents_of a (get_or views k d)) ≡ Ok y → longer ≡ done ++ y ∷ []
+    → all_contents a ≡ with_rest a done k → all_contents a ≡ with_rest a longer (k + 1)
+past a views done longer k d y same within e more so_far =
+    let is = get_or_default views k d (get_or views k d) within ∙ ap (λ vs. get_or vs k (get_or views k d)) same in
+    next a done longer k (get_or views k d) y (subst (λ vs. k < length vs) same within) is e more so_far
 
 -- at a view with a fault, or without memory
 pub stop : (a : AssetParts) (done : List (List ℕ)) (k : ℕ) (v : View) (refusal : Refusal)

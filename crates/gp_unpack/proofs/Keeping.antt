@@ -1,35 +1,35 @@
 -- What unpacking writes stands for an asset with the same contents.
-use Rattle.std.proofs.Common.{◌≡◌, ◌≢◌, ℕ, suc, ◌+◌, ◌<◌, ◌≤◌, ◌^◌, Bool, true, false, List, [], ◌∷◌, ◌++◌, map, length, replicate, Option, Some, None, option_map, Result, Ok, Err, refl, sym, ap, ◌∙◌, subst, arith}
+use Rattle.std.proofs.Common.{◌≡◌, ◌≢◌, ℕ, suc, ◌<◌, ◌^◌, List, [], ◌∷◌, ◌++◌, map, length, replicate, Option, Some, None, option_map, Result, Ok, Err, refl, sym, ap, ◌∙◌, subst, arith}
 use Rattle.std.proofs.lemmas.List.{length-map}
-use Rattle.std.proofs.lemmas.List.Elements.{All-cons}
-use Rattle.gp_json.specs.Plain.{PlainTree}
-use Rattle.gp_json.specs.Sound.{IsSound}
+use Rattle.gp_tree.specs.Plain.{PlainTree}
+use Rattle.gp_tree.specs.Sound.{IsSound}
 use Rattle.gp_json.specs.Text.{text_of}
 use Rattle.gp_glb.specs.Bytes.{padded, missing}
 use Rattle.gp_glb.proofs.ReadingBack.{has_length}
 use Rattle.gp_fields.specs.Fields.{ViewFields}
 use Rattle.gp_fields.specs.Record.{AssetFields, asset_fields}
 use Rattle.gp_fields.specs.declared.fault.FieldFault.{FieldFault}
-use Rattle.gp_asset.specs.declared.fault.Form.TheVariants.{Any}
-use Rattle.gp_asset.specs.declared.storage.View.{View}
+use Rattle.gp_asset.specs.declared.purpose.Form.TheVariants.{Any}
+use Rattle.gp_rules.specs.declared.storage.View.{View}
 use Rattle.gp_asset.specs.Extensions.{extensions_in_use, supported}
 use Rattle.gp_asset.specs.Asset.{AssetParts, asset}
 use Rattle.gp_layout.specs.Layout.{starts, end, laid}
+use Rattle.gp_layout.proofs.Bounds.{starts_below}
 use Rattle.gp_layout.proofs.Parts.{length_laid, length_starts}
-use Rattle.gp_edits.specs.ReadingBack.{FitsEach}
 use Rattle.gp_edits.proofs.PlainBack.{one_again, none_again}
 use Rattle.gp_document.specs.Document.{Document, glb_of}
 use Rattle.gp_document.specs.Accepted.{IsAccepted, asset_of}
 use Rattle.gp_document.specs.Operation.{Made, Hindrance}
+use Rattle.gp_document.proofs.Finishing.{was_built}
 use Rattle.gp_document.proofs.Written.{holds_written}
 use Rattle.gp_unpack.specs.Contents.{FaultyView, all_contents}
-use Rattle.gp_unpack.specs.Unpacked.{plain_view, with_plain_views, with_buffer_of, unpacked_tree, unpacked_bin, unpacked, has_unbuilt, former_streams, made_of, made_with, made_unless, unpacked_or}
+use Rattle.gp_layout.specs.Row.{laid_buffer, buffer_length}
+use Rattle.gp_unpack.specs.Unpacked.{unpacked_tree, unpacked, has_unbuilt, former_streams, made_of, made_with, unpacked_or}
 use Rattle.gp_unpack.specs.Kept.{KeepsViews}
 use Rattle.gp_unpack.specs.Laws.{UnpackedKeepsViews}
 use Rattle.gp_unpack.specs.PlainFields.{laid_fields, viewless_fields}
 use Rattle.gp_unpack.proofs.CommonTree.{common_kept}
 use Rattle.gp_unpack.proofs.SoundTree.{unpacked_sound, unpacked_uses_no_more}
-use Rattle.gp_layout.specs.Layout.{aligned, starts_behind, end_behind}
 use Rattle.gp_unpack.proofs.Drawn.{asset_holds, rules_hold}
 use Rattle.gp_unpack.proofs.Whole.{contents_are_whole}
 use Rattle.gp_unpack.proofs.Again.{sizes, lengths_kept}
@@ -49,35 +49,18 @@ made_so d a m (Ok contents) is e =
     record { contents = contents; read = is; document = sym (ap (λ (n : Made). n.document) own) }
 made_so d a m (Err faulty) is e = absurd (cc)
 
-made_if : (d : Document) (a : AssetParts) (m : Made) (b : Bool) → made_unless b d a ≡ Ok m → IsUnpacked d a m
-made_if d a m true e = absurd (cc)
-made_if d a m false e = made_so d a m (all_contents a) refl e
-
 is_unpacked : (d : Document) (a : AssetParts) (m : Made) → unpacked_or d a ≡ Ok m → IsUnpacked d a m
 unfolding unpacked_or
-is_unpacked d a m e = made_if d a m (has_unbuilt a) e
+is_unpacked d a m e = made_so d a m (all_contents a) refl (was_built (has_unbuilt a) (made_with d a (all_contents a)) m e)
 
 -- ---- how long it is
 
 bin_fits : (d : Document) (contents : List (List ℕ)) (m : ℕ) → length (glb_of (unpacked contents d)) < m → 0 < m → end (map length contents) < m
-unfolding glb_of unpacked unpacked_bin
+unfolding glb_of unpacked laid_buffer
 bin_fits d [] m h some = some
 bin_fits d (bytes ∷ contents) m h some =
     let t = unpacked_tree (bytes ∷ contents) d.tree in
     omega (arith, h, has_length (text_of t) (Some (laid (bytes ∷ contents))) d.rest, length_laid (bytes ∷ contents))
-
-aligned_least : (n : ℕ) → n ≤ aligned n
-aligned_least n = omega arith
-
-end_least : (at : ℕ) (lengths : List ℕ) → at ≤ end_behind at lengths
-end_least at [] = omega arith
-end_least at (n ∷ lengths) = omega (arith, aligned_least at, end_least (aligned at + n) lengths)
-
-starts_fit : (at : ℕ) (lengths : List ℕ) → end_behind at lengths < 2 ^ 32 → FitsEach (starts_behind at lengths)
-starts_fit at [] h = λ k d b. absurd (omega (arith, b))
-starts_fit at (n ∷ lengths) h =
-    All-cons (λ start. start < 2 ^ 32) (aligned at) (starts_behind (aligned at + n) lengths)
-    (omega (arith, end_least (aligned at + n) lengths, h)) (starts_fit (aligned at + n) lengths h)
 
 -- ---- the asset that it stands for
 
@@ -119,7 +102,7 @@ uses t bin a contents sound e = asset_holds Any t bin a e (λ fields used r h al
 
 -- without a view
 reads_none : (t : PlainTree) (bin : Option (List ℕ)) (a : AssetParts) → IsSound t → asset Any t bin ≡ Ok a → all_contents a ≡ Ok [] → Reads (unpacked_tree [] t) None []
-unfolding unpacked_tree with_buffer_of with_plain_views plain_view
+unfolding unpacked_tree buffer_length
 reads_none t bin a sound e is =
     let law = viewless_stays_so t bin a [] e is in
     let f = law.0 in
@@ -134,20 +117,20 @@ reads_none t bin a sound e is =
 reads_some : (t : PlainTree) (bin : Option (List ℕ)) (a : AssetParts) (bytes : List ℕ) (others : List (List ℕ)) (more : List ℕ) → IsSound t → asset Any t bin ≡ Ok a
     → all_contents a ≡ Ok (bytes ∷ others) → end (map length (bytes ∷ others)) < 2 ^ 32
     → Reads (unpacked_tree (bytes ∷ others) t) (Some (laid (bytes ∷ others) ++ more)) (bytes ∷ others)
-unfolding unpacked_tree with_buffer_of with_plain_views plain_view
+unfolding unpacked_tree buffer_length
 reads_some t bin a bytes others more sound e is fits =
     let contents = bytes ∷ others in
     let law = contents_laid_plain t bin a contents e is in
     let f = law.0 in
     let count = counted t bin a f contents e is law.1 in
     let u = unpacked_tree contents t in
-    let g = one_again (end (map length contents)) (starts (map length contents)) t f sound.distinct law.1 fits (starts_counted contents f count) (starts_fit 0 (map length contents) fits) in
+    let g = one_again (end (map length contents)) (starts (map length contents)) t f sound.distinct law.1 fits (starts_counted contents f count) (starts_below (2 ^ 32) 0 (map length contents) fits) in
     let b = law.2 u (laid_fields contents f) (extensions_in_use u) more (some_of f.views (length others) (sym count)) g refl (uses t bin a contents sound e) in
     record { parts = b.0; is = b.1; read = b.2 }
 
 reads_again : (t : PlainTree) (bin : Option (List ℕ)) (a : AssetParts) (contents : List (List ℕ)) → IsSound t → asset Any t bin ≡ Ok a → all_contents a ≡ Ok contents
-    → end (map length contents) < 2 ^ 32 → Reads (unpacked_tree contents t) (option_map (padded 0) (unpacked_bin contents)) contents
-unfolding unpacked_bin padded
+    → end (map length contents) < 2 ^ 32 → Reads (unpacked_tree contents t) (option_map (padded 0) (laid_buffer contents)) contents
+unfolding laid_buffer padded
 reads_again t bin a [] sound e is fits = reads_none t bin a sound e is
 reads_again t bin a (bytes ∷ others) sound e is fits = reads_some t bin a bytes others (replicate (missing (length (laid (bytes ∷ others)))) 0) sound e is fits
 
@@ -165,9 +148,9 @@ keeps bytes accepted contents is fits =
     record {
       input = accepted;
       output = record {
-        document = record { tree = unpacked_tree contents d.tree; bin = option_map (padded 0) (unpacked_bin contents); rest = d.rest };
+        document = record { tree = unpacked_tree contents d.tree; bin = option_map (padded 0) (laid_buffer contents); rest = d.rest };
         asset = again.parts;
-        holds = holds_written bytes d (unpacked_tree contents d.tree) (unpacked_bin contents) holds sound fits;
+        holds = holds_written bytes d (unpacked_tree contents d.tree) (laid_buffer contents) holds sound fits;
         is_asset = again.is;
       };
       contents = contents;

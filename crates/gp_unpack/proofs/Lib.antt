@@ -1,4 +1,5 @@
 pub mod Each
+pub mod EachItem
 pub mod Shapes
 pub mod Views
 pub mod Lengths

@@ -1,42 +1,34 @@
 -- Parts that were laid into one buffer stand there at their places.
-use Rattle.std.proofs.Common.{◌≡◌, ℕ, ◌+◌, ◌-◌, ◌≤◌, List, [], ◌∷◌, ◌++◌, map, length, take, drop, replicate, Some, Result, Ok, refl, sym, ap, ◌∙◌, arith, length-append, append_assoc}
+use Rattle.std.proofs.Common.{◌≡◌, ℕ, ◌+◌, ◌-◌, List, [], ◌∷◌, ◌++◌, map, length, take, drop, replicate, Some, Result, Ok, refl, sym, ap, ◌∙◌, arith, append_assoc}
 use Rattle.std.proofs.lemmas.List.{length-replicate, drop-drop, drop_at, take_at}
-use Rattle.gp_layout.specs.Layout.{aligned, starts_behind, starts, end_behind, laid_behind, laid}
-use Rattle.gp_asset.specs.declared.storage.View.{View}
+use Rattle.gp_rules.specs.Sizes.{padded}
+use Rattle.gp_layout.specs.Layout.{starts_behind, starts, laid_behind, laid}
+use Rattle.gp_rules.specs.declared.storage.View.{View}
 use Rattle.gp_asset.specs.Asset.{AssetParts}
 use Rattle.gp_asset.specs.Contents.{buffer_at}
-use Rattle.gp_unpack.specs.Contents.{FaultyView, joined, contents_from, all_contents}
+use Rattle.gp_rules.specs.Checks.{joined}
+use Rattle.gp_unpack.specs.Contents.{FaultyView, contents_from, all_contents}
 use Rattle.gp_unpack.specs.PlainFields.{plain_views_at}
 
 -- ---- lengths
 
 abbrev pub padding : ℕ → List ℕ
-padding at = replicate (aligned at - at) 0
+padding at = replicate (padded at - at) 0
 
-padding_length : (at : ℕ) → length (padding at) ≡ aligned at - at
-padding_length at = length-replicate (aligned at - at) 0
-
-pub laid_length : (at : ℕ) (parts : List (List ℕ)) → at + length (laid_behind at parts) ≡ end_behind at (map length parts)
-laid_length at [] = omega arith
-laid_length at (part ∷ parts) =
-    let rest = laid_behind (aligned at + length part) parts in
-    omega (arith, length-append (padding at ++ part) rest, length-append (padding at) part, padding_length at, laid_length (aligned at + length part) parts)
-
-pub end_grows : (at : ℕ) (lengths : List ℕ) → at ≤ end_behind at lengths
-end_grows at [] = omega arith
-end_grows at (n ∷ lengths) = omega (arith, end_grows (aligned at + n) lengths)
+padding_length : (at : ℕ) → length (padding at) ≡ padded at - at
+padding_length at = length-replicate (padded at - at) 0
 
 -- ---- places
 
 -- at the start of a part, where the bytes behind the one before it are known
 pub begins : (at : ℕ) (bytes part rest more : List ℕ) → drop at bytes ≡ ((padding at ++ part) ++ rest) ++ more
-    → drop (aligned at) bytes ≡ part ++ (rest ++ more)
+    → drop (padded at) bytes ≡ part ++ (rest ++ more)
 begins at bytes part rest more e =
-    let sum : at + (aligned at - at) ≡ aligned at = omega arith in
+    let sum : at + (padded at - at) ≡ padded at = omega arith in
     let apart : ((padding at ++ part) ++ rest) ++ more ≡ padding at ++ (part ++ (rest ++ more)) =
     append_assoc (padding at ++ part) rest more ∙ append_assoc (padding at) part (rest ++ more) in
-    ap (λ n. drop n bytes) (sym sum) ∙ sym (drop-drop (aligned at - at) at bytes) ∙ ap (drop (aligned at - at)) (e ∙ apart)
-    ∙ drop_at (padding at) (part ++ (rest ++ more)) (aligned at - at) (padding_length at)
+    ap (λ n. drop n bytes) (sym sum) ∙ sym (drop-drop (padded at - at) at bytes) ∙ ap (drop (padded at - at)) (e ∙ apart)
+    ∙ drop_at (padding at) (part ++ (rest ++ more)) (padded at - at) (padding_length at)
 
 pub goes_on : (at : ℕ) (bytes part rest : List ℕ) → drop at bytes ≡ part ++ rest → drop (at + length part) bytes ≡ rest
 goes_on at bytes part rest e = sym (drop-drop (length part) at bytes) ∙ ap (drop (length part)) e ∙ drop_at part rest (length part) refl
@@ -48,7 +40,7 @@ pub placed_from : (a : AssetParts) (bytes more : List ℕ) (at k : ℕ) (parts :
 placed_from a bytes more at k [] vs one lengths there = refl
 placed_from a bytes more at k (part ∷ parts) [] one lengths there = absurd (cc)
 placed_from a bytes more at k (part ∷ parts) (v ∷ vs) one lengths there =
-    let start = aligned at in
+    let start = padded at in
     let long : length part ≡ v.length = cc in
     let others : map length parts ≡ map (λ (v : View). v.length) vs = cc in
     let rest = laid_behind (start + length part) parts in

@@ -1,17 +1,17 @@
 -- An asset has the same contents after the contents of all its views were laid plain into one buffer.
 use Rattle.std.proofs.Common.{◌≡◌, ◌≢◌, ℕ, List, [], ◌++◌, map, length, Option, Some, None, Ok, refl, sym, ap, subst, ◌∙◌}
-use Rattle.gp_json.specs.Plain.{PlainTree}
+use Rattle.gp_tree.specs.Plain.{PlainTree}
 use Rattle.gp_fields.specs.Fields.{ViewFields}
 use Rattle.gp_fields.specs.Record.{AssetFields, asset_fields}
 use Rattle.gp_layout.specs.Layout.{laid}
-use Rattle.gp_asset.specs.declared.fault.Form.TheVariants.{Any}
-use Rattle.gp_asset.specs.declared.storage.View.{View}
+use Rattle.gp_asset.specs.declared.purpose.Form.TheVariants.{Any}
+use Rattle.gp_rules.specs.declared.storage.View.{View}
 use Rattle.gp_asset.specs.Extensions.{extensions_in_use, supported}
 use Rattle.gp_asset.specs.Asset.{AssetParts, RuledParts, asset, by_rules, parts}
 use Rattle.gp_unpack.specs.Contents.{all_contents, contents_from}
 use Rattle.gp_unpack.specs.Laws.{ContentsLaidPlain, ViewlessStaysSo}
 use Rattle.gp_unpack.specs.PlainFields.{laid_fields, laid_parts, viewless_fields, viewless_parts}
-use Rattle.gp_unpack.proofs.Shapes.{same}
+use Rattle.gp_document.proofs.Few.{same}
 use Rattle.gp_unpack.proofs.Drawn.{rules_hold, AssetHolds, asset_holds, asset_passes}
 use Rattle.gp_unpack.proofs.Whole.{contents_are_whole}
 use Rattle.gp_unpack.proofs.Again.{again, lengths_kept, rules_pass_again, rules_pass_without_views}

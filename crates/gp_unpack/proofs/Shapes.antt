@@ -1,43 +1,28 @@
 -- The compressed forms of an asset have shapes that decoders ask for.
-use Rattle.std.proofs.Common.{◌≡◌, ℕ, ◌+◌, Bool, true, false, not, ◌||◌, List, [], ◌∷◌, Option, Some, None, Ok, Err, codes, refl, ap, subst}
+use Rattle.std.proofs.Common.{◌≡◌, ℕ, ◌+◌, Bool, true, false, not, ◌||◌, List, [], ◌∷◌, Option, Some, None, Ok, codes, refl, ap, subst}
 use Rattle.std.specs.List.{All}
 use Rattle.std.specs.Option.{IfSome}
 use Rattle.std.proofs.lemmas.List.Elements.{All-nil, All-cons}
-use Rattle.gp_json.specs.Plain.{PlainTree}
-use Rattle.gp_json.specs.Find.{is_named}
+use Rattle.gp_tree.specs.Find.{is_named}
 use Rattle.gp_fields.specs.Fields.{BufferFields, ViewFields, PackedFields, AccessorFields}
-use Rattle.gp_fields.specs.Record.{AssetFields, asset_fields}
-use Rattle.gp_asset.specs.declared.fault.Form.{Form}
-use Rattle.gp_asset.specs.declared.fault.Form.TheVariants.{Any}
-use Rattle.gp_asset.specs.declared.fault.AssetFault.{AssetFault}
-use Rattle.gp_asset.specs.declared.fault.AssetFault.TheVariants.{View as BadView, Extension, Filter, TooMuchData}
-use Rattle.gp_asset.specs.declared.accessing.Accessor.{Accessor}
-use Rattle.gp_asset.specs.declared.storage.View.{View}
-use Rattle.gp_asset.specs.declared.storage.Packed.{Packed}
-use Rattle.gp_asset.specs.declared.storage.StreamMode.{StreamMode}
-use Rattle.gp_asset.specs.Kinds.{mode_of}
-use Rattle.gp_asset.specs.Checks.{Checked, ◌>>=◌, unless, each}
-use Rattle.gp_asset.specs.Views.{is_stride_in, is_count_in, is_bad_view, is_bad_packed, packed_with, packed_of, view_of}
+use Rattle.gp_fields.specs.Record.{◌>>=◌, asset_fields}
+use Rattle.gp_asset.specs.declared.purpose.Form.TheVariants.{Any}
+use Rattle.gp_rules.specs.declared.fault.AssetFault.TheVariants.{View as BadView, Extension, Filter, TooMuchData}
+use Rattle.gp_rules.specs.declared.storage.View.{View}
+use Rattle.gp_rules.specs.declared.storage.Packed.{Packed}
+use Rattle.gp_rules.specs.declared.storage.StreamMode.{StreamMode}
+use Rattle.gp_rules.specs.Kinds.{mode_of}
+use Rattle.gp_rules.specs.Checks.{Checked, unless, each}
+use Rattle.gp_rules.specs.Views.{is_stride_in, is_count_in, is_bad_view, is_bad_packed, packed_with, packed_of, view_of}
 use Rattle.gp_asset.specs.Asset.{AssetParts, RuledParts, asset, by_rules, parts, in_shape}
 use Rattle.gp_asset.specs.Extensions.{extensions_in_use, supported}
 use Rattle.gp_asset.specs.Buffers.{buffer_of}
-use Rattle.gp_asset.specs.Accessors.{accessor_of, is_too_much}
+use Rattle.gp_rules.specs.Accessors.{accessor_of, is_too_much}
 use Rattle.gp_document.specs.Document.{Document}
 use Rattle.gp_document.specs.Accepted.{asset_of}
+use Rattle.gp_document.proofs.Few.{step, passes, same, with_packed, ruled_by, load_on, accessors_on, views_on, rules_on, supported_on}
 use Rattle.gp_unpack.specs.Contents.{HasShape, HaveShapes}
 use Rattle.gp_unpack.specs.Laws.{AssetsHaveShapes}
-
--- a check that lets a value through has found the value of its first step
-pub step : {A B : Type 0} {P : Type 0} (first : Checked A) (f : A → Checked B) (b : B) → first >>= f ≡ Ok b → ((a : A) → first ≡ Ok a → f a ≡ Ok b → P) → P
-step (Ok a) f b e then_holds = then_holds a refl e
-step (Err fault) f b e then_holds = absurd (cc)
-
-pub passes : {A P : Type 0} (condition : Bool) (fault : AssetFault) (rest : Checked A) (a : A) → unless condition fault rest ≡ Ok a → (condition ≡ false → rest ≡ Ok a → P) → P
-passes true fault rest a e then_holds = absurd (cc)
-passes false fault rest a e then_holds = then_holds refl e
-
-pub same : {A : Type 0} (x y : A) → ◌≡◌ {A = Checked A} (Ok x) (Ok y) → x ≡ y
-same x y e = cc
 
 -- what a check says of each item holds for all
 pub each_has : {A B : Type 0} (P : B → Type 0) (f : ℕ → A → Checked B) (given : (i : ℕ) (x : A) (y : B) → f i x ≡ Ok y → P y) (at : ℕ) (xs : List A) (ys : List B) → each f at xs ≡ Ok ys → All P ys
@@ -75,9 +60,6 @@ packed_has : (buffers : List BufferFields) (at : ℕ) (v : ViewFields) (p : Opti
 packed_has buffers at v None packed e = let is : None ≡ packed = cc in subst (λ o. IfSome o HasShape) is tt
 packed_has buffers at v (Some p) packed e = packed_with_has buffers at v p (mode_of p.mode) packed e
 
-abbrev pub with_packed : ViewFields → Option Packed → View
-with_packed v packed = record { buffer = v.buffer; offset = v.offset; length = v.length; stride = v.stride; packed = packed }
-
 view_has : (buffers : List BufferFields) (at : ℕ) (v : ViewFields) (y : View) → view_of buffers at v ≡ Ok y → IfSome y.packed HasShape
 unfolding view_of
 view_has buffers at v y e =
@@ -86,19 +68,6 @@ view_has buffers at v y e =
     subst (λ (w : View). IfSome w.packed HasShape) (same (with_packed v packed) y whole) (packed_has buffers at v v.packed packed found)))
 
 -- ---- all views
-
--- what is left after the accessors, after the views, and after the buffers
-abbrev pub ruled_by : List (Option (List ℕ)) → List View → List Accessor → RuledParts
-ruled_by bs vs xs = record { buffers = bs; views = vs; accessors = xs }
-
-abbrev pub load_on : List (Option (List ℕ)) → List View → List Accessor → Checked RuledParts
-load_on bs vs xs = unless (is_too_much vs xs) TooMuchData (Ok (ruled_by bs vs xs))
-
-abbrev pub accessors_on : List AccessorFields → List (Option (List ℕ)) → List View → Checked RuledParts
-accessors_on accessors bs vs = each (accessor_of vs) 0 accessors >>= λ xs. load_on bs vs xs
-
-abbrev pub views_on : List BufferFields → List ViewFields → List AccessorFields → List (Option (List ℕ)) → Checked RuledParts
-views_on buffers views accessors bs = each (view_of buffers) 0 views >>= λ vs. accessors_on accessors bs vs
 
 ruled_have : (buffers : List BufferFields) (views : List ViewFields) (accessors : List AccessorFields) (bin : Option (List ℕ)) (ruled : RuledParts) → by_rules buffers views accessors bin ≡ Ok ruled → HaveShapes ruled.views
 unfolding by_rules
@@ -111,12 +80,6 @@ ruled_have buffers views accessors bin ruled e =
     (each_has (λ (v : View). IfSome v.packed HasShape) (view_of buffers) (view_has buffers) 0 views vs e2)))))
 
 -- ---- all of an asset
-
-abbrev pub rules_on : AssetFields → Option (List ℕ) → List (List ℕ) → Checked AssetParts
-rules_on fields bin used = by_rules fields.buffers fields.views fields.accessors bin >>= λ ruled. Ok (parts fields used ruled)
-
-abbrev pub supported_on : Form → PlainTree → Option (List ℕ) → AssetFields → Checked AssetParts
-supported_on form t bin fields = supported form (extensions_in_use t) >>= λ used. rules_on fields bin used
 
 pub assets_have_shapes : AssetsHaveShapes
 unfolding asset

@@ -5,23 +5,25 @@ use Rattle.std.specs.List.{slice_get, list_any, list_all}
 use Rattle.std.specs.Option.{option_map, option_and_then, is_none}
 use Rattle.std.proofs.lemmas.Bool.{or_parts, or_left, or_right, eq-eqb, eqb-true, ltb-false}
 use Rattle.std.proofs.lemmas.List.{length-take-le, length-drop}
-use Rattle.gp_json.specs.Find.{is_named}
+use Rattle.gp_tree.specs.Find.{is_named}
 use Rattle.gp_groups.specs.declared.fault.StreamFault.{StreamFault}
 use Rattle.gp_fields.specs.Fields.{BufferFields, ViewFields, PackedFields, AccessorFields}
-use Rattle.gp_asset.specs.declared.fault.AssetFault.TheVariants.{Buffer, Extension, Filter}
-use Rattle.gp_asset.specs.declared.storage.View.{View}
-use Rattle.gp_asset.specs.declared.storage.Packed.{Packed}
-use Rattle.gp_asset.specs.declared.storage.StreamMode.{StreamMode}
-use Rattle.gp_asset.specs.declared.storage.StreamMode.TheVariants.{Attributes, Triangles, Indices}
-use Rattle.gp_asset.specs.Kinds.{mode_of}
-use Rattle.gp_asset.specs.Checks.{◌>>=◌, unless, each}
-use Rattle.gp_asset.specs.Views.{is_bad_view, is_bad_packed, is_filter, is_stride_in, agrees, is_count_in, is_stride_of_view, packed_of, packed_with, view_of, buffer_length, runs_past}
+use Rattle.gp_rules.specs.declared.fault.AssetFault.TheVariants.{Buffer, Extension, Filter}
+use Rattle.gp_rules.specs.declared.storage.View.{View}
+use Rattle.gp_rules.specs.declared.storage.Packed.{Packed}
+use Rattle.gp_rules.specs.declared.storage.StreamMode.{StreamMode}
+use Rattle.gp_rules.specs.declared.storage.StreamMode.TheVariants.{Attributes, Triangles, Indices}
+use Rattle.gp_rules.specs.Kinds.{mode_of}
+use Rattle.gp_fields.specs.Record.{◌>>=◌}
+use Rattle.gp_rules.specs.Checks.{joined, unless, each}
+use Rattle.gp_rules.specs.Views.{is_bad_view, is_bad_packed, is_filter, is_stride_in, agrees, is_count_in, is_stride_of_view, packed_of, packed_with, view_of, buffer_length, runs_past}
 use Rattle.gp_asset.specs.Buffers.{buffer_of, buffer_in_use, buffer_bytes, bytes_if, is_marker, is_needed, stored_bytes, refers_to}
 use Rattle.gp_asset.specs.Asset.{AssetParts, RuledParts, by_rules}
 use Rattle.gp_asset.specs.Contents.{buffer_at, stream_bytes}
-use Rattle.gp_unpack.specs.Contents.{FaultyView, decoded, contents_by, contents_of, at_view, joined, contents_from, all_contents}
+use Rattle.gp_unpack.specs.Contents.{FaultyView, decoded, contents_by, contents_of, at_view, contents_from, all_contents}
 use Rattle.gp_unpack.specs.Laws.{ContentsAreWhole}
-use Rattle.gp_unpack.proofs.Shapes.{step, passes, same, kept, shape, with_packed}
+use Rattle.gp_document.proofs.Few.{step, passes, same, with_packed}
+use Rattle.gp_unpack.proofs.Shapes.{kept, shape}
 use Rattle.gp_unpack.proofs.Lengths.{attributes_length, triangles_length, sequence_length}
 use Rattle.gp_unpack.proofs.Drawn.{each_at, view_holds, rules_hold, asset_holds}
 

@@ -1,20 +1,21 @@
 -- The bytes of all buffer views of an asset (glTF 2.0, section 5.11), those of compressed forms decoded
 -- (EXT_meshopt_compression), or the first view whose stream has a fault.
-use Rattle.std.specs.Prelude.{◌≡◌, ℕ, ◌+◌, true, List, [], ◌∷◌, map, Option, Some, None, IfSome, Result, Ok, Err, ⊤}
+use Rattle.std.specs.Prelude.{◌≡◌, ℕ, true, List, map, Option, Some, None, IfSome, Result, Ok, Err, ⊤}
 use Rattle.std.specs.List.{All}
 use Rattle.gp_groups.specs.declared.fault.StreamFault.{StreamFault}
 use Rattle.gp_groups.specs.Attributes.{decoded_attributes}
 use Rattle.gp_groups.specs.Triangles.{decoded_triangles}
 use Rattle.gp_groups.specs.Sequence.{decoded_sequence}
-use Rattle.gp_asset.specs.declared.storage.View.{View}
-use Rattle.gp_asset.specs.declared.storage.Packed.{Packed}
-use Rattle.gp_asset.specs.declared.storage.StreamMode.{StreamMode}
-use Rattle.gp_asset.specs.declared.storage.StreamMode.TheVariants.{Attributes, Triangles, Indices}
+use Rattle.gp_rules.specs.declared.storage.View.{View}
+use Rattle.gp_rules.specs.declared.storage.Packed.{Packed}
+use Rattle.gp_rules.specs.declared.storage.StreamMode.{StreamMode}
+use Rattle.gp_rules.specs.declared.storage.StreamMode.TheVariants.{Attributes, Triangles, Indices}
 use Rattle.gp_asset.specs.declared.refusal.Refusal.{Refusal}
 use Rattle.gp_asset.specs.declared.refusal.Refusal.TheVariants.{Stream, Memory}
 use Rattle.gp_asset.specs.Asset.{AssetParts}
 use Rattle.gp_asset.specs.Contents.{plain_bytes, stream_bytes}
-use Rattle.gp_asset.specs.Views.{is_stride_in, is_count_in}
+use Rattle.gp_rules.specs.Checks.{each}
+use Rattle.gp_rules.specs.Views.{is_stride_in, is_count_in}
 
 -- ---- one view
 
@@ -44,16 +45,9 @@ abbrev pub at_view : {A : Type 0} → ℕ → Result A StreamFault → Result A 
 at_view at (Ok a) = Ok a
 at_view at (Err fault) = Err (record { view = at; fault = fault })
 
--- one in front of the others; its own fault comes before theirs
-abbrev pub joined : {A : Type 0} → Result A FaultyView → Result (List A) FaultyView → Result (List A) FaultyView
-joined (Err fault) others = Err fault
-joined (Ok a) (Err fault) = Err fault
-joined (Ok a) (Ok others) = Ok (a ∷ others)
-
 -- those of these views, the first of which has this number
 abbrev pub contents_from : AssetParts → ℕ → List View → Result (List (List ℕ)) FaultyView
-contents_from a at [] = Ok []
-contents_from a at (v ∷ views) = joined (at_view at (contents_of a v)) (contents_from a (at + 1) views)
+contents_from a at views = each (λ k v. at_view k (contents_of a v)) at views
 
 -- the contents of each view in order, or the fault of the first view whose stream has one
 unfoldable pub all_contents : AssetParts → Result (List (List ℕ)) FaultyView

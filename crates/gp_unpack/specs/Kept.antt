@@ -1,6 +1,6 @@
 -- What unpacking keeps of an asset.
 use Rattle.std.specs.Prelude.{◌≡◌, ℕ, List, Ok}
-use Rattle.gp_asset.specs.declared.fault.Form.TheVariants.{Any}
+use Rattle.gp_asset.specs.declared.purpose.Form.TheVariants.{Any}
 use Rattle.gp_document.specs.Accepted.{HoldsAsset, IsAccepted}
 use Rattle.gp_edits.specs.Common.{common}
 use Rattle.gp_unpack.specs.Contents.{all_contents}

@@ -1,12 +1,12 @@
 -- Laws of unpacking, over the definitions alone.
 use Rattle.std.specs.Prelude.{◌≡◌, ◌≢◌, ℕ, List, [], ◌∷◌, ◌++◌, map, length, Option, Some, None, Ok}
-use Rattle.gp_json.specs.Plain.{PlainTree}
+use Rattle.gp_tree.specs.Plain.{PlainTree}
 use Rattle.gp_fields.specs.Fields.{BufferFields, ViewFields, AccessorFields}
 use Rattle.gp_fields.specs.Record.{AssetFields, asset_fields}
 use Rattle.gp_layout.specs.Layout.{starts, end, laid}
-use Rattle.gp_asset.specs.declared.fault.Form.{Form}
-use Rattle.gp_asset.specs.declared.fault.Form.TheVariants.{Any}
-use Rattle.gp_asset.specs.declared.storage.View.{View}
+use Rattle.gp_asset.specs.declared.purpose.Form.{Form}
+use Rattle.gp_asset.specs.declared.purpose.Form.TheVariants.{Any}
+use Rattle.gp_rules.specs.declared.storage.View.{View}
 use Rattle.gp_asset.specs.Extensions.{extensions_in_use, supported}
 use Rattle.gp_asset.specs.Asset.{AssetParts, RuledParts, asset, by_rules}
 use Rattle.gp_document.specs.Answers.{IsMade}
@@ -14,7 +14,7 @@ use Rattle.gp_document.specs.declared.output.Output.{Output}
 use Rattle.gp_unpack.specs.Contents.{HaveShapes, all_contents}
 use Rattle.gp_unpack.specs.Unpacked.{unpacking}
 use Rattle.gp_unpack.specs.Kept.{KeepsViews}
-use Rattle.gp_edits.specs.ReadingBack.{plain_views_at as views_at_places}
+use Rattle.gp_edits.specs.ReadingBack.{plain_views_fields}
 use Rattle.gp_unpack.specs.PlainFields.{one_buffer, plain_views_at, laid_fields, laid_parts, viewless_fields, viewless_parts}
 
 -- each compressed form of an asset has a stride and a count such as its mode has
@@ -33,7 +33,7 @@ abbrev pub RulesPassAgain : Type 0
 RulesPassAgain =
     (buffers : List BufferFields) (fs : List ViewFields) (accessors : List AccessorFields) (bin : Option (List ℕ)) (r : RuledParts) (contents : List (List ℕ)) (more : List ℕ)
     → by_rules buffers fs accessors bin ≡ Ok r → map length contents ≡ map (λ (v : ViewFields). v.length) fs → fs ≢ []
-    → by_rules (one_buffer (end (map length contents))) (views_at_places (starts (map length contents)) fs) accessors (Some (laid contents ++ more))
+    → by_rules (one_buffer (end (map length contents))) (plain_views_fields (starts (map length contents)) fs) accessors (Some (laid contents ++ more))
     ≡ Ok (record { buffers = Some (laid contents ++ more) ∷ []; views = plain_views_at (starts (map length contents)) r.views; accessors = r.accessors })
 
 -- and so where there is no view

@@ -3,8 +3,8 @@ use Rattle.std.specs.Prelude.{ℕ, List, [], ◌∷◌, ◌++◌, map, length, S
 use Rattle.gp_fields.specs.Fields.{BufferFields}
 use Rattle.gp_fields.specs.Record.{AssetFields}
 use Rattle.gp_layout.specs.Layout.{starts, end, laid}
-use Rattle.gp_edits.specs.ReadingBack.{buffer_of_length, plain_views_at as views_at_places}
-use Rattle.gp_asset.specs.declared.storage.View.{View}
+use Rattle.gp_edits.specs.ReadingBack.{buffer_of_length, plain_views_fields}
+use Rattle.gp_rules.specs.declared.storage.View.{View}
 use Rattle.gp_asset.specs.Extensions.{are_closed}
 use Rattle.gp_asset.specs.Asset.{AssetParts}
 
@@ -24,7 +24,7 @@ plain_views_at (offset ∷ offsets) (v ∷ views) = plain_view_at offset v ∷ p
 -- ---- the fields of a whole asset, and what they stand for, where its views have these contents
 
 abbrev pub laid_fields : List (List ℕ) → AssetFields → AssetFields
-laid_fields contents f = record f { buffers = one_buffer (end (map length contents)); views = views_at_places (starts (map length contents)) f.views }
+laid_fields contents f = record f { buffers = one_buffer (end (map length contents)); views = plain_views_fields (starts (map length contents)) f.views }
 
 abbrev pub laid_parts : List (List ℕ) → List ℕ → List (List ℕ) → AssetParts → AssetParts
 laid_parts contents more used a = record a {

@@ -1,48 +1,30 @@
 -- The unpacked document: the bytes of every view in one buffer, and no trace of the extension where it stood for that.
-use Rattle.std.specs.Prelude.{ℕ, Bool, true, false, List, [], ◌∷◌, map, length, is_some, count_by, Option, Some, None, Result, Ok, Err, codes}
+use Rattle.std.specs.Prelude.{ℕ, Bool, true, false, List, map, length, is_some, count_by, Option, Some, None, Result, Ok, Err}
 use Rattle.std.specs.List.{list_any}
-use Rattle.gp_json.specs.Plain.{PlainTree}
-use Rattle.gp_json.specs.TreeEdits.{without, at_member, with_items}
-use Rattle.gp_asset.specs.declared.fault.Form.TheVariants.{Any}
-use Rattle.gp_asset.specs.declared.storage.View.{View}
-use Rattle.gp_asset.specs.declared.storage.Packed.{Packed}
-use Rattle.gp_asset.specs.declared.storage.StreamMode.{StreamMode}
-use Rattle.gp_asset.specs.declared.storage.StreamMode.TheVariants.{Attributes, Triangles, Indices}
+use Rattle.gp_tree.specs.Plain.{PlainTree}
+use Rattle.gp_asset.specs.declared.purpose.Form.TheVariants.{Any}
+use Rattle.gp_rules.specs.declared.storage.View.{View}
+use Rattle.gp_rules.specs.declared.storage.Packed.{Packed}
+use Rattle.gp_rules.specs.declared.storage.StreamMode.{StreamMode}
+use Rattle.gp_rules.specs.declared.storage.StreamMode.TheVariants.{Attributes, Triangles, Indices}
 use Rattle.gp_asset.specs.Asset.{AssetParts}
-use Rattle.gp_layout.specs.Layout.{starts, end, laid}
-use Rattle.gp_edits.specs.Changes.{change_each}
-use Rattle.gp_edits.specs.Edits.{placed, without_compression, with_one_buffer, without_extension_named}
+use Rattle.gp_layout.specs.Layout.{starts}
+use Rattle.gp_layout.specs.Row.{laid_buffer, buffer_length}
+use Rattle.gp_edits.specs.Edits.{with_plain_views, with_buffers_of, without_extension_named}
 use Rattle.gp_document.specs.Document.{Document}
-use Rattle.gp_document.specs.Operation.{Made, Hindrance, unbuilt, faulty_stream, Operation}
+use Rattle.gp_document.specs.Operation.{Made, Hindrance, faulty_stream, unless_unbuilt, Operation}
 use Rattle.gp_unpack.specs.Contents.{FaultyView, all_contents}
 
 -- ---- the tree
 
--- a view at its place in the one buffer, without its extension object
-unfoldable pub plain_view : ℕ → PlainTree → PlainTree
-plain_view start view = placed 0 start (without_compression view)
-
--- the views at the places of their contents
-unfoldable pub with_plain_views : List ℕ → PlainTree → PlainTree
-with_plain_views starts root = at_member (codes "bufferViews") (with_items (change_each plain_view starts)) root
-
--- one buffer for the contents of all views, or none where there are no views
-unfoldable pub with_buffer_of : List (List ℕ) → PlainTree → PlainTree
-with_buffer_of [] root = without (codes "buffers") root
-with_buffer_of (bytes ∷ contents) root = with_one_buffer (end (map length (bytes ∷ contents))) root
-
+-- the views at the places of their contents, in one buffer for all of them; none where there are no views
 unfoldable pub unpacked_tree : List (List ℕ) → PlainTree → PlainTree
-unpacked_tree contents root = without_extension_named (with_buffer_of contents (with_plain_views (starts (map length contents)) root))
+unpacked_tree contents root = without_extension_named (with_buffers_of (buffer_length contents) None (with_plain_views (starts (map length contents)) root))
 
 -- ---- the document
 
--- the bytes of that buffer
-unfoldable pub unpacked_bin : List (List ℕ) → Option (List ℕ)
-unpacked_bin [] = None
-unpacked_bin (bytes ∷ contents) = Some (laid (bytes ∷ contents))
-
 unfoldable pub unpacked : List (List ℕ) → Document → Document
-unpacked contents document = record { tree = unpacked_tree contents document.tree; bin = unpacked_bin contents; rest = document.rest }
+unpacked contents document = record { tree = unpacked_tree contents document.tree; bin = laid_buffer contents; rest = document.rest }
 
 -- ---- the operation
 
@@ -72,12 +54,8 @@ abbrev pub made_with : Document → AssetParts → Result (List (List ℕ)) Faul
 made_with document a (Err faulty) = Err (faulty_stream faulty.view faulty.fault)
 made_with document a (Ok contents) = Ok (made_of contents document (length a.views) (former_streams a))
 
-abbrev pub made_unless : Bool → Document → AssetParts → Result Made Hindrance
-made_unless true document a = Err unbuilt
-made_unless false document a = made_with document a (all_contents a)
-
 unfoldable pub unpacked_or : Document → AssetParts → Result Made Hindrance
-unpacked_or document a = made_unless (has_unbuilt a) document a
+unpacked_or document a = unless_unbuilt (has_unbuilt a) (made_with document a (all_contents a))
 
 abbrev pub unpacking : Operation
 unpacking = record { form = Any; make = unpacked_or }

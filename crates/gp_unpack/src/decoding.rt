@@ -4,10 +4,11 @@ ghost use Rattle.gp_groups.specs.Steps.{filled};
 ghost use Rattle.gp_unpack.specs.Contents.{decoded, contents_of, at_view, all_contents, HasShape, HaveShapes, Answers};
 
 use crate::contents::Contents;
-use gp_asset::{Asset, Packed, Refusal, StreamMode, View, ViewBytes};
+use gp_asset::{Asset, Refusal, ViewBytes};
 use gp_groups::StreamFault;
 use gp_host::Bytes;
 use gp_index::decode_triangles;
+use gp_rules::{Packed, StreamMode, View};
 use gp_sequence::decode_sequence;
 use gp_vertex::decode_attributes;
 use std::alloc::Global;

@@ -1,15 +1,16 @@
 // The JSON of an asset whose views are all plain.
 ghost use Rattle.std.specs.Prelude.{◌≡◌, ℕ, List, OnOk};
-ghost use Rattle.gp_json.specs.Plain.{plain};
+ghost use Rattle.gp_tree.specs.Plain.{plain};
 ghost use Rattle.gp_layout.specs.Row.{row_of};
-ghost use Rattle.gp_unpack.specs.Unpacked.{with_plain_views, with_buffer_of, unpacked_tree};
+ghost use Rattle.gp_edits.specs.Edits.{with_plain_views};
+ghost use Rattle.gp_unpack.specs.Unpacked.{unpacked_tree};
 
 use gp_edits::{
-    ViewEdits, edit_views, place_view, remove_compression, remove_extension_names, set_one_buffer,
+    ViewEdits, edit_views, place_view, remove_compression, remove_extension_names, set_buffers,
 };
 use gp_host::NoMemory;
-use gp_json::Tree;
 use gp_layout::Row;
+use gp_tree::Tree;
 use std::alloc::Global;
 
 // The views at these places, without their extension objects.
@@ -20,11 +21,10 @@ struct PlainViews<'a> {
 
 impl<'a> ViewEdits for PlainViews<'a> {
     ghost use Rattle.std.specs.Prelude.{map};
-    ghost use Rattle.gp_unpack.specs.Unpacked.{plain_view};
+    ghost use Rattle.gp_edits.specs.Edits.{plain_view};
 
     ghost edits = { λ views. map plain_view views.starts.now };
 
-    #[tactic(auto, unfolding(crate::specs::Unpacked::plain_view))]
     fn edit(&self, alloc: Global, at: usize, view: &mut Tree) -> Result<(), NoMemory> {
         remove_compression(view);
         place_view(alloc, view, 0, self.starts[at] as u64)
@@ -37,27 +37,14 @@ pub(crate) fn edit_tree(alloc: Global, root: &mut Tree, row: &Row) -> Result<(),
     ensures { OnOk result ((contents : List (List ℕ)) → row.now ≡ row_of contents → plain root.new ≡ unpacked_tree contents (plain root.old)) }
 {
     place_views(alloc, root, row.starts())?;
-    set_buffer(alloc, root, row)?;
+    set_buffers(alloc, root, row.buffer_length(), None)?;
     remove_extension_names(alloc, root);
     Ok(())
 }
 
 // Says where each view stands.
-#[tactic(auto, unfolding(crate::specs::Unpacked::with_plain_views))]
 fn place_views(alloc: Global, root: &mut Tree, starts: &[usize]) -> Result<(), NoMemory>
     ensures { OnOk result (plain root.new ≡ with_plain_views starts.now (plain root.old)) }
 {
     edit_views(alloc, root, &PlainViews { starts }, starts.len())
-}
-
-// Makes the row the one buffer, where it has parts.
-#[tactic(auto, unfolding(crate::specs::Unpacked::with_buffer_of))]
-fn set_buffer(alloc: Global, root: &mut Tree, row: &Row) -> Result<(), NoMemory>
-    ensures { OnOk result ((contents : List (List ℕ)) → row.now ≡ row_of contents → plain root.new ≡ with_buffer_of contents (plain root.old)) }
-{
-    if row.starts().is_empty() {
-        root.remove("buffers");
-        return Ok(());
-    }
-    set_one_buffer(alloc, root, row.bytes().len() as u64)
 }

@@ -1,19 +1,19 @@
 // Unpacking.
-ghost use Rattle.std.specs.Prelude.{◌≡◌, ℕ, ◌<◌, ◌^◌, List, length, option_map};
+ghost use Rattle.std.specs.Prelude.{◌≡◌, ◌<◌, ◌^◌, length};
 ghost use Rattle.gp_glb.specs.Container.{AreWholeChunks};
 ghost use Rattle.gp_document.specs.Answers.{AnswersOrMemory, IsOnlyAnswer};
 ghost use Rattle.gp_document.specs.Reading.{document_of};
 ghost use Rattle.gp_document.specs.Writing.{Writes, Finishes};
-ghost use Rattle.gp_layout.specs.Row.{row_of};
 ghost use Rattle.gp_unpack.specs.Contents.{HaveShapes};
-ghost use Rattle.gp_unpack.specs.Unpacked.{has_unbuilt, holds_indices, former_streams, unpacked_bin, unpacked_or, unpacking, made_of};
+ghost use Rattle.gp_unpack.specs.Unpacked.{has_unbuilt, holds_indices, former_streams, unpacked_or, unpacking, made_of};
 
 use crate::contents::Contents;
 use crate::decoding::decode_views;
 use crate::editing::edit_tree;
-use gp_asset::{Asset, Form, Packed, Refusal, StreamMode};
+use gp_asset::{Asset, Form, Refusal};
 use gp_document::{Accepted, Document, Output, accept, write_document};
-use gp_layout::{Row, lay};
+use gp_layout::lay;
+use gp_rules::{Packed, StreamMode};
 use std::alloc::Global;
 
 /// Unpacks a GLB or a glTF text (glTF 2.0 and EXT_meshopt_compression): the GLB whose views are all plain, or the input's
@@ -98,17 +98,5 @@ fn write_unpacked(
     drop(contents);
     let mut tree = document.tree;
     edit_tree(alloc, &mut tree, &row)?;
-    write_document(alloc, tree, bin_of(&row), document.rest, views, streams)
-}
-
-// The bytes of a row, where it has parts.
-#[tactic(auto, unfolding(crate::specs::Unpacked::unpacked_bin))]
-fn bin_of(row: &Row) -> Option<&[u8]>
-    ensures { (contents : List (List ℕ)) → row.now ≡ row_of contents → option_map (λ b. b.now) result ≡ unpacked_bin contents }
-{
-    if row.starts().is_empty() {
-        None
-    } else {
-        Some(row.bytes())
-    }
+    write_document(alloc, tree, row.buffer(), document.rest, views, streams)
 }

@@ -1,10 +1,10 @@
 // Conditions of accessors (sections 3.6.2, 5.1). View 0 has 64 bytes, view 1 has 24 in strides of 16, view 2 has 8.
-use super::fault_with;
-use crate::AssetFault;
+use super::{Row, assert_fault, assert_rows};
+use gp_rules::AssetFault;
 use std::test::Fail;
 
 const BEFORE: &str =
-    r#"{"buffers":[{"byteLength":64}],"bufferViews":[{"buffer":0,"byteLength":64},{"buffer":0,"byteLength":24,"byteStride":16},{"buffer":0,"byteLength":8}],"accessors":["#;
+    r#"{"buffers":[{"byteLength":64}],"bufferViews":[{"buffer":0,"byteLength":64},{"buffer":0,"byteLength":24,"byteStride":16},{"buffer":0,"byteLength":8}],"accessors":[{"#;
 
 const CHUNK: &[u8] = b"0123456789abcdef0123456789abcdef0123456789abcdef0123456789abcdef";
 
@@ -12,7 +12,7 @@ const BAD: Option<AssetFault> = Some(AssetFault::Accessor { at: 0 });
 
 #[test]
 fn components_and_types_are_known(rt: HostRuntime) -> Result<(), Fail> {
-    let rows = [
+    const ROWS: &[Row<'static>] = &[
         (r#""componentType":5120,"type":"SCALAR","count":1"#, None),
         (r#""componentType":5121,"type":"VEC2","count":1"#, None),
         (r#""componentType":5122,"type":"VEC3","count":1"#, None),
@@ -30,20 +30,12 @@ fn components_and_types_are_known(rt: HostRuntime) -> Result<(), Fail> {
         (r#""componentType":5126,"type":"SCALAR","count":0"#, BAD),
         (r#""componentType":5124,"type":"VEC5","count":0"#, BAD),
     ];
-    for (members, want) in rows {
-        let text = [BEFORE, "{", members, "}]}"];
-        assert_eq!(rt;
-            fault_with(rt.alloc(), &text, Some(CHUNK))?,
-            want,
-            "{members}"
-        );
-    }
-    Ok(())
+    assert_rows(&rt, rt.alloc(), (BEFORE, "}]}"), ROWS, Some(CHUNK))
 }
 
 #[test]
 fn elements_end_in_their_view(rt: HostRuntime) -> Result<(), Fail> {
-    let rows = [
+    const ROWS: &[Row<'static>] = &[
         (r#""bufferView":2,"count":2"#, None),
         (r#""bufferView":2,"count":3"#, BAD),
         (r#""bufferView":2,"count":0"#, BAD),
@@ -60,26 +52,14 @@ fn elements_end_in_their_view(rt: HostRuntime) -> Result<(), Fail> {
         (r#""bufferView":1,"count":3"#, BAD),
         (r#""bufferView":1,"count":268435457"#, BAD),
     ];
-    for (members, want) in rows {
-        let text = [
-            BEFORE,
-            r#"{"componentType":5126,"type":"SCALAR","#,
-            members,
-            "}]}",
-        ];
-        assert_eq!(rt;
-            fault_with(rt.alloc(), &text, Some(CHUNK))?,
-            want,
-            "{members}"
-        );
-    }
-    Ok(())
+    let after = r#","componentType":5126,"type":"SCALAR"}]}"#;
+    assert_rows(&rt, rt.alloc(), (BEFORE, after), ROWS, Some(CHUNK))
 }
 
 // The last element needs no more than its own bytes, and the columns of a matrix begin at multiples of 4.
 #[test]
 fn elements_have_sizes(rt: HostRuntime) -> Result<(), Fail> {
-    let rows = [
+    const ROWS: &[Row<'static>] = &[
         (
             r#""bufferView":1,"componentType":5126,"type":"VEC2","count":2"#,
             None,
@@ -145,35 +125,23 @@ fn elements_have_sizes(rt: HostRuntime) -> Result<(), Fail> {
             BAD,
         ),
     ];
-    for (members, want) in rows {
-        let text = [BEFORE, "{", members, "}]}"];
-        assert_eq!(rt;
-            fault_with(rt.alloc(), &text, Some(CHUNK))?,
-            want,
-            "{members}"
-        );
-    }
-    Ok(())
+    assert_rows(&rt, rt.alloc(), (BEFORE, "}]}"), ROWS, Some(CHUNK))
 }
 
 #[test]
 fn the_first_accessor_is_named(rt: HostRuntime) -> Result<(), Fail> {
-    let good = r#"{"componentType":5126,"type":"SCALAR","count":1}"#;
-    let empty = r#"{"componentType":5126,"type":"SCALAR","count":0}"#;
-    let unknown = r#"{"componentType":5124,"type":"SCALAR","count":1}"#;
-    let rows = [
-        ([good, good, good], None),
-        ([good, empty, unknown], Some(AssetFault::Accessor { at: 1 })),
-        ([good, good, unknown], Some(AssetFault::Accessor { at: 2 })),
-        ([unknown, good, empty], BAD),
+    const GOOD: &str = r#""componentType":5126,"type":"SCALAR","count":1"#;
+    const EMPTY: &str = r#""componentType":5126,"type":"SCALAR","count":0"#;
+    const UNKNOWN: &str = r#""componentType":5124,"type":"SCALAR","count":1"#;
+    const ROWS: &[([&str; 3], Option<AssetFault>)] = &[
+        ([GOOD, GOOD, GOOD], None),
+        ([GOOD, EMPTY, UNKNOWN], Some(AssetFault::Accessor { at: 1 })),
+        ([GOOD, GOOD, UNKNOWN], Some(AssetFault::Accessor { at: 2 })),
+        ([UNKNOWN, GOOD, EMPTY], BAD),
     ];
-    for ([first, second, third], want) in rows {
-        let text = [BEFORE, first, ",", second, ",", third, "]}"];
-        assert_eq!(rt;
-            fault_with(rt.alloc(), &text, Some(CHUNK))?,
-            want,
-            "{second}{third}"
-        );
+    for &([first, second, third], want) in ROWS {
+        let text = [BEFORE, first, "},{", second, "},{", third, "}]}"];
+        assert_fault(&rt, rt.alloc(), &text, Some(CHUNK), want)?;
     }
     Ok(())
 }

@@ -1,13 +1,17 @@
 // Conditions of buffers (sections 3.6.1 and 5.10).
-use super::fault_with;
-use crate::{AssetFault, Form, ViewBytes, read_asset};
+use super::{Pair, Row, assert_fault, assert_pairs, assert_rows};
+use crate::{Form, ViewBytes, read_asset};
 use gp_json::read;
+use gp_rules::AssetFault;
 use std::test::Fail;
 
 const BEFORE: &str = r#"{"buffers":["#;
 
 // A view that needs the first buffer.
 const AFTER: &str = r#"],"bufferViews":[{"buffer":0,"byteLength":4}]}"#;
+
+// The same behind a `uri`.
+const AFTER_URI: &str = r#""}],"bufferViews":[{"buffer":0,"byteLength":4}]}"#;
 
 const SHORT: Option<AssetFault> = Some(AssetFault::Buffer { at: 0 });
 
@@ -17,7 +21,7 @@ const BASE64: Option<AssetFault> = Some(AssetFault::Base64 { at: 0 });
 
 #[test]
 fn buffer_0_is_the_chunk(rt: HostRuntime) -> Result<(), Fail> {
-    let rows: [(&str, Option<&[u8]>, Option<AssetFault>); 8] = [
+    const ROWS: &[(&str, Option<&[u8]>, Option<AssetFault>)] = &[
         (r#"{"byteLength":4}"#, None, SHORT),
         (r#"{"byteLength":4}"#, Some(b""), SHORT),
         (r#"{"byteLength":4}"#, Some(b"abc"), SHORT),
@@ -31,16 +35,15 @@ fn buffer_0_is_the_chunk(rt: HostRuntime) -> Result<(), Fail> {
             Some(AssetFault::View { at: 0 }),
         ),
     ];
-    for (buffer, bin, want) in rows {
-        let fault = fault_with(rt.alloc(), &[BEFORE, buffer, AFTER], bin)?;
-        assert_eq!(rt; fault, want, "{buffer}");
+    for &(buffer, bin, want) in ROWS {
+        assert_fault(&rt, rt.alloc(), &[BEFORE, buffer, AFTER], bin, want)?;
     }
     Ok(())
 }
 
 #[test]
 fn a_buffer_may_be_marked(rt: HostRuntime) -> Result<(), Fail> {
-    let rows = [
+    const ROWS: &[Row<'static>] = &[
         ("{}", None),
         (r#"{"EXT_meshopt_compression":{}}"#, None),
         (r#"{"EXT_meshopt_compressio\u006e":null}"#, None),
@@ -49,20 +52,11 @@ fn a_buffer_may_be_marked(rt: HostRuntime) -> Result<(), Fail> {
         (r#"{"x":1,"EXT_meshopt_compression":{}}"#, SHORT),
         (r#"{"EXT_meshopt_compressio":{}}"#, SHORT),
     ];
-    for (names, want) in rows {
-        let text = [
-            BEFORE,
-            r#"{"byteLength":4,"extensions":"#,
-            names,
-            "}",
-            AFTER,
-        ];
-        assert_eq!(rt;
-            fault_with(rt.alloc(), &text, Some(b"abcd"))?,
-            want,
-            "{names}"
-        );
-        assert_eq!(rt; fault_with(rt.alloc(), &text, None)?, SHORT, "{names}");
+    let before = r#"{"buffers":[{"byteLength":4,"extensions":"#;
+    let after = r#"}],"bufferViews":[{"buffer":0,"byteLength":4}]}"#;
+    assert_rows(&rt, rt.alloc(), (before, after), ROWS, Some(b"abcd"))?;
+    for &(names, _) in ROWS {
+        assert_fault(&rt, rt.alloc(), &[before, names, after], None, SHORT)?;
     }
     Ok(())
 }
@@ -70,7 +64,7 @@ fn a_buffer_may_be_marked(rt: HostRuntime) -> Result<(), Fail> {
 // The code of four bytes is `AQIDBA==`.
 #[test]
 fn a_uri_is_read(rt: HostRuntime) -> Result<(), Fail> {
-    let rows = [
+    const ROWS: &[Row<'static>] = &[
         ("data:application/octet-stream;base64,AQIDBA==", None),
         ("data:application/gltf-buffer;base64,AQIDBA==", None),
         (r#"\u0064ata:application/gltf-buffer;base64,AQIDBA=="#, None),
@@ -82,22 +76,15 @@ fn a_uri_is_read(rt: HostRuntime) -> Result<(), Fail> {
         ("data:application/octet-stream;base64,AQID", SHORT),
         ("data:application/octet-stream;base64,", SHORT),
     ];
-    for (uri, want) in rows {
-        let text = [BEFORE, r#"{"byteLength":4,"uri":""#, uri, r#""}"#, AFTER];
-        assert_eq!(rt; fault_with(rt.alloc(), &text, None)?, want, "{uri}");
-        assert_eq!(rt;
-            fault_with(rt.alloc(), &text, Some(b"abcdefg"))?,
-            want,
-            "{uri}"
-        );
-    }
-    Ok(())
+    let frame = (r#"{"buffers":[{"byteLength":4,"uri":""#, AFTER_URI);
+    assert_rows(&rt, rt.alloc(), frame, ROWS, None)?;
+    assert_rows(&rt, rt.alloc(), frame, ROWS, Some(b"abcdefg"))
 }
 
 // Each is so whatever the length that the buffer says, and whatever the chunk.
 #[test]
 fn a_uri_of_another_kind_is_refused(rt: HostRuntime) -> Result<(), Fail> {
-    let rows = [
+    const ROWS: &[Row<'static>] = &[
         ("", SCHEME),
         ("a.bin", SCHEME),
         ("data:image/png;base64,AQIDBA==", SCHEME),
@@ -115,16 +102,9 @@ fn a_uri_of_another_kind_is_refused(rt: HostRuntime) -> Result<(), Fail> {
         ("data:application/gltf-buffer;base64,____", BASE64),
         ("data:application/gltf-buffer;base64,A", BASE64),
     ];
-    for (uri, want) in rows {
-        let text = [BEFORE, r#"{"byteLength":99,"uri":""#, uri, r#""}"#, AFTER];
-        assert_eq!(rt; fault_with(rt.alloc(), &text, None)?, want, "{uri}");
-        assert_eq!(rt;
-            fault_with(rt.alloc(), &text, Some(b"abcdefg"))?,
-            want,
-            "{uri}"
-        );
-    }
-    Ok(())
+    let frame = (r#"{"buffers":[{"byteLength":99,"uri":""#, AFTER_URI);
+    assert_rows(&rt, rt.alloc(), frame, ROWS, None)?;
+    assert_rows(&rt, rt.alloc(), frame, ROWS, Some(b"abcdefg"))
 }
 
 #[test]
@@ -142,9 +122,10 @@ fn the_uri_is_read_beside_a_chunk(rt: HostRuntime) -> Result<(), Fail> {
 // What is wrong with a buffer that no view needs, and which buffer is named first.
 #[test]
 fn buffers_are_asked_in_order(rt: HostRuntime) -> Result<(), Fail> {
-    let both = r#"],"bufferViews":[{"buffer":1,"byteLength":4},{"buffer":0,"byteLength":4}]}"#;
-    let second = r#"],"bufferViews":[{"buffer":1,"byteLength":4}]}"#;
-    let rows = [
+    const BOTH: &str =
+        r#"],"bufferViews":[{"buffer":1,"byteLength":4},{"buffer":0,"byteLength":4}]}"#;
+    const SECOND: &str = r#"],"bufferViews":[{"buffer":1,"byteLength":4}]}"#;
+    const ROWS: &[Pair<'static>] = &[
         (r#"{"byteLength":9}"#, "]}", None),
         (r#"{"byteLength":9,"uri":"a.bin"}"#, "]}", None),
         (r#"{"byteLength":9,"extensions":{"x":1}}"#, "]}", SHORT),
@@ -155,85 +136,78 @@ fn buffers_are_asked_in_order(rt: HostRuntime) -> Result<(), Fail> {
         ),
         (
             r#"{"byteLength":4},{"byteLength":4}"#,
-            second,
+            SECOND,
             Some(AssetFault::Buffer { at: 1 }),
         ),
         (
             r#"{"byteLength":9},{"byteLength":4,"uri":"data:application/octet-stream;base64,AQIDBA=="}"#,
-            second,
+            SECOND,
             None,
         ),
         (
             r#"{"byteLength":4},{"byteLength":4,"uri":"a.bin"}"#,
-            both,
+            BOTH,
             Some(AssetFault::Scheme { at: 1 }),
         ),
         (
             r#"{"byteLength":4,"uri":"data:application/gltf-buffer;base64,A"},{"byteLength":4}"#,
-            both,
+            BOTH,
             BASE64,
         ),
         (
             r#"{"byteLength":4,"uri":"a.bin"},{"byteLength":4,"extensions":{"x":1}}"#,
-            both,
+            BOTH,
             SCHEME,
         ),
         (
             r#"{"byteLength":5},{"byteLength":4,"uri":"a.bin"}"#,
-            both,
+            BOTH,
             SHORT,
         ),
     ];
-    for (buffers, after, want) in rows {
-        let fault = fault_with(rt.alloc(), &[BEFORE, buffers, after], Some(b"abcd"))?;
-        assert_eq!(rt; fault, want, "{buffers}");
-    }
-    Ok(())
+    let frame = (BEFORE, "", "");
+    assert_pairs(&rt, rt.alloc(), frame, ROWS, Some(b"abcd"))
 }
 
 // Buffer 1 is the view's own, and the stream stands in buffer 0.
 #[test]
 fn a_fallback_buffer_needs_no_bytes(rt: HostRuntime) -> Result<(), Fail> {
-    let packed =
+    const PACKED: &str =
         r#"],"bufferViews":[{"buffer":1,"byteLength":8,"extensions":{"EXT_meshopt_compression":{"buffer":0,"byteLength":4,"byteStride":4,"count":2,"mode":"ATTRIBUTES"}}}"#;
-    let itself =
+    const ITSELF: &str =
         r#"],"bufferViews":[{"buffer":1,"byteLength":8,"extensions":{"EXT_meshopt_compression":{"buffer":1,"byteLength":4,"byteStride":4,"count":2,"mode":"ATTRIBUTES"}}}"#;
-    let missing = Some(AssetFault::Buffer { at: 1 });
-    let rows = [
-        (r#"{"byteLength":8}"#, packed, "]}", None),
-        (r#"{"byteLength":8,"uri":"a.bin"}"#, packed, "]}", None),
+    const MISSING: Option<AssetFault> = Some(AssetFault::Buffer { at: 1 });
+    const ROWS: &[(&str, &str, &str, Option<AssetFault>)] = &[
+        (r#"{"byteLength":8}"#, PACKED, "]}", None),
+        (r#"{"byteLength":8,"uri":"a.bin"}"#, PACKED, "]}", None),
         (
             r#"{"byteLength":8,"extensions":{"EXT_meshopt_compression":{"fallback":true}}}"#,
-            packed,
+            PACKED,
             "]}",
             None,
         ),
         (
             r#"{"byteLength":8,"extensions":{"EXT_meshopt_compression":{"fallback":true},"x":1}}"#,
-            packed,
+            PACKED,
             "]}",
-            missing,
+            MISSING,
         ),
         (
             r#"{"byteLength":8,"extensions":{"EXT_meshopt_compression":{"fallback":true}}}"#,
-            itself,
+            ITSELF,
             "]}",
-            missing,
+            MISSING,
         ),
         (
             r#"{"byteLength":8,"extensions":{"EXT_meshopt_compression":{"fallback":true}}}"#,
-            packed,
+            PACKED,
             r#",{"buffer":1,"byteLength":8}]}"#,
-            missing,
+            MISSING,
         ),
     ];
-    for (buffer, views, end, want) in rows {
+    for &(buffer, views, end, want) in ROWS {
         let text = [BEFORE, r#"{"byteLength":4},"#, buffer, views, end];
-        assert_eq!(rt;
-            fault_with(rt.alloc(), &text, Some(b"abcd"))?,
-            want,
-            "{buffer}"
-        );
+        assert_fault(&rt, rt.alloc(), &text, Some(b"abcd"), want)?;
     }
     Ok(())
 }

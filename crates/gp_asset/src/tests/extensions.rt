@@ -1,18 +1,32 @@
 // Which extensions are in use (section 3.12), and what follows of it.
-use super::fault_of;
-use crate::{AssetFault, Form, read_asset};
+use super::assert_form;
+use crate::{Form, read_asset};
 use gp_json::read;
+use gp_rules::AssetFault;
 use std::alloc::Global;
+use std::process::Abort;
 use std::test::Fail;
 
 const FOREIGN: Option<AssetFault> = Some(AssetFault::Foreign);
 
 const PACKED: Option<AssetFault> = Some(AssetFault::AlreadyPacked);
 
-// By what is read for packing, and for all else.
+// The faults of each text, read for packing and for all else.
+fn assert_forms(
+    rt: &impl Abort,
+    alloc: Global,
+    rows: &[(&str, Option<AssetFault>, Option<AssetFault>)],
+) -> Result<(), Fail> {
+    for (text, plain, any) in rows {
+        assert_form(rt, alloc, text, None, Form::Plain, *plain)?;
+        assert_form(rt, alloc, text, None, Form::Any, *any)?;
+    }
+    Ok(())
+}
+
 #[test]
 fn extensions_are_found(rt: HostRuntime) -> Result<(), Fail> {
-    let rows = [
+    const ROWS: &[(&str, Option<AssetFault>, Option<AssetFault>)] = &[
         ("{}", None, None),
         (
             r#"{"extensionsUsed":["KHR_meshopt_compression"]}"#,
@@ -66,24 +80,12 @@ fn extensions_are_found(rt: HostRuntime) -> Result<(), Fail> {
             None,
         ),
     ];
-    for (text, plain, any) in rows {
-        assert_eq!(rt;
-            fault_of(rt.alloc(), text.as_bytes(), None, Form::Plain)?,
-            plain,
-            "{text}"
-        );
-        assert_eq!(rt;
-            fault_of(rt.alloc(), text.as_bytes(), None, Form::Any)?,
-            any,
-            "{text}"
-        );
-    }
-    Ok(())
+    assert_forms(&rt, rt.alloc(), ROWS)
 }
 
 #[test]
 fn what_is_packed_is_not_packed_again(rt: HostRuntime) -> Result<(), Fail> {
-    let rows = [
+    const ROWS: &[(&str, Option<AssetFault>, Option<AssetFault>)] = &[
         (
             r#"{"extensionsUsed":["EXT_meshopt_compression"]}"#,
             PACKED,
@@ -115,20 +117,11 @@ fn what_is_packed_is_not_packed_again(rt: HostRuntime) -> Result<(), Fail> {
             FOREIGN,
         ),
     ];
-    for (text, plain, any) in rows {
-        assert_eq!(rt;
-            fault_of(rt.alloc(), text.as_bytes(), None, Form::Plain)?,
-            plain,
-            "{text}"
-        );
-        assert_eq!(rt;
-            fault_of(rt.alloc(), text.as_bytes(), None, Form::Any)?,
-            any,
-            "{text}"
-        );
-    }
-    Ok(())
+    assert_forms(&rt, rt.alloc(), ROWS)
 }
+
+// What stands before and behind a name in the list of extensions in use.
+const USED: (&str, &str) = (r#"{"extensionsUsed":[""#, r#""]}"#);
 
 // Whether an asset with these extensions is closed.
 fn is_closed(alloc: Global, before: &str, names: &str, after: &str) -> Result<bool, Fail> {
@@ -141,9 +134,22 @@ fn is_closed(alloc: Global, before: &str, names: &str, after: &str) -> Result<bo
     Ok(asset.is_closed())
 }
 
+// The same, where it is known.
+fn assert_closed(
+    rt: &impl Abort,
+    alloc: Global,
+    (before, after): (&str, &str),
+    name: &str,
+    want: bool,
+) -> Result<(), Fail> {
+    let closed = is_closed(alloc, before, name, after)?;
+    assert_eq!(rt; closed, want, "{before}{name}{after}");
+    Ok(())
+}
+
 #[test]
 fn the_list_is_closed(rt: HostRuntime) -> Result<(), Fail> {
-    let rows = [
+    const ROWS: &[&str] = &[
         "EXT_meshopt_compression",
         "EXT_texture_webp",
         "KHR_lights_punctual",
@@ -165,16 +171,15 @@ fn the_list_is_closed(rt: HostRuntime) -> Result<(), Fail> {
         "KHR_materials_volume",
         r#"KHR_materials_volum\u0065"#,
     ];
-    for name in rows {
-        let closed = is_closed(rt.alloc(), r#"{"extensionsUsed":[""#, name, r#""]}"#)?;
-        assert_eq!(rt; closed, true, "{name}");
+    for &name in ROWS {
+        assert_closed(&rt, rt.alloc(), USED, name, true)?;
     }
     Ok(())
 }
 
 #[test]
 fn other_extensions_are_not_on_the_list(rt: HostRuntime) -> Result<(), Fail> {
-    let rows = [
+    const ROWS: &[&str] = &[
         "",
         "EXT_mesh_gpu_instancing",
         "KHR_draco_mesh_compression",
@@ -183,24 +188,18 @@ fn other_extensions_are_not_on_the_list(rt: HostRuntime) -> Result<(), Fail> {
         "EXT_texture_WEBP",
         "EXT_lights_image_based",
     ];
-    for name in rows {
-        let closed = is_closed(rt.alloc(), r#"{"extensionsUsed":[""#, name, r#""]}"#)?;
-        assert_eq!(rt; closed, false, "{name}");
-        let closed = is_closed(
-            rt.alloc(),
-            r#"{"extensionsRequired":["KHR_materials_ior",""#,
-            name,
-            r#"","KHR_materials_ior"]}"#,
-        )?;
-        assert_eq!(rt; closed, false, "{name}");
-        let closed = is_closed(
-            rt.alloc(),
-            r#"{"extras":{"extensions":{"KHR_materials_ior":0,""#,
-            name,
-            r#"":0}}}"#,
-        )?;
-        assert_eq!(rt; closed, false, "{name}");
+    let required = (
+        r#"{"extensionsRequired":["KHR_materials_ior",""#,
+        r#"","KHR_materials_ior"]}"#,
+    );
+    let under_extras = (
+        r#"{"extras":{"extensions":{"KHR_materials_ior":0,""#,
+        r#"":0}}}"#,
+    );
+    for &name in ROWS {
+        assert_closed(&rt, rt.alloc(), USED, name, false)?;
+        assert_closed(&rt, rt.alloc(), required, name, false)?;
+        assert_closed(&rt, rt.alloc(), under_extras, name, false)?;
     }
-    assert_eq!(rt; is_closed(rt.alloc(), "{", "", "}")?, true);
-    Ok(())
+    assert_closed(&rt, rt.alloc(), ("{", "}"), "", true)
 }

@@ -1,9 +1,8 @@
 // What is read of an asset with each of its parts.
-use crate::{
-    Accessor, AccessorUse, Asset, Component, Form, Packed, Role, Shape, Sparse, StreamMode, View,
-    ViewBytes, read_asset,
-};
-use gp_json::{Tree, read};
+use crate::{AccessorUse, Asset, Form, Role, ViewBytes, read_asset};
+use gp_json::read;
+use gp_rules::{Accessor, Component, Packed, Shape, Sparse, StreamMode, View};
+use gp_tree::Tree;
 use std::alloc::Global;
 use std::test::Fail;
 

@@ -1,6 +1,6 @@
 // How much an asset may ask for: 2^31 = 2147483648 bytes.
-use super::fault_with;
-use crate::AssetFault;
+use super::{Pair, Row, assert_fault, assert_pairs, assert_rows};
+use gp_rules::AssetFault;
 use std::test::Fail;
 
 const MUCH: Option<AssetFault> = Some(AssetFault::TooMuchData);
@@ -8,7 +8,7 @@ const MUCH: Option<AssetFault> = Some(AssetFault::TooMuchData);
 // Elements without a view, each with its bytes up to a multiple of 4.
 #[test]
 fn elements_are_padded(rt: HostRuntime) -> Result<(), Fail> {
-    let rows = [
+    const ROWS: &[Row<'static>] = &[
         (
             r#"{"componentType":5126,"type":"SCALAR","count":536870912}"#,
             None,
@@ -58,36 +58,29 @@ fn elements_are_padded(rt: HostRuntime) -> Result<(), Fail> {
             MUCH,
         ),
     ];
-    for (accessors, want) in rows {
-        let fault = fault_with(rt.alloc(), &[r#"{"accessors":["#, accessors, "]}"], None)?;
-        assert_eq!(rt; fault, want, "{accessors}");
-    }
-    Ok(())
+    let frame = (r#"{"accessors":["#, "]}");
+    assert_rows(&rt, rt.alloc(), frame, ROWS, None)
 }
 
 // Views of a chunk of 5 bytes, and so many floats.
 #[test]
 fn views_are_counted(rt: HostRuntime) -> Result<(), Fail> {
-    let one = r#"{"buffer":0,"byteLength":1}"#;
-    let four = r#"{"buffer":0,"byteLength":4}"#;
-    let five = r#"{"buffer":0,"byteLength":5}"#;
-    let rows = [
-        (one, "", "536870911", None),
-        (one, "", "536870912", MUCH),
-        (four, "", "536870911", None),
-        (five, "", "536870911", MUCH),
-        (four, r#",{"buffer":0,"byteLength":4}"#, "536870910", None),
-        (four, r#",{"buffer":0,"byteLength":5}"#, "536870910", MUCH),
+    const ONE: &str = r#"{"buffer":0,"byteLength":1}"#;
+    const FOUR: &str = r#"{"buffer":0,"byteLength":4}"#;
+    const FIVE: &str = r#"{"buffer":0,"byteLength":5}"#;
+    const ROWS: &[(&str, &str, &str, Option<AssetFault>)] = &[
+        (ONE, "", "536870911", None),
+        (ONE, "", "536870912", MUCH),
+        (FOUR, "", "536870911", None),
+        (FIVE, "", "536870911", MUCH),
+        (FOUR, r#",{"buffer":0,"byteLength":4}"#, "536870910", None),
+        (FOUR, r#",{"buffer":0,"byteLength":5}"#, "536870910", MUCH),
     ];
-    for (view, other, count, want) in rows {
+    for &(view, other, count, want) in ROWS {
         let before = r#"{"buffers":[{"byteLength":5}],"bufferViews":["#;
         let between = r#"],"accessors":[{"componentType":5126,"type":"SCALAR","count":"#;
         let text = [before, view, other, between, count, "}]}"];
-        assert_eq!(rt;
-            fault_with(rt.alloc(), &text, Some(b"abcde"))?,
-            want,
-            "{view}{other} {count}"
-        );
+        assert_fault(&rt, rt.alloc(), &text, Some(b"abcde"), want)?;
     }
     Ok(())
 }
@@ -95,20 +88,13 @@ fn views_are_counted(rt: HostRuntime) -> Result<(), Fail> {
 // A compressed view counts as what its stream stands for.
 #[test]
 fn compressed_views_are_counted(rt: HostRuntime) -> Result<(), Fail> {
-    let rows = [
+    const ROWS: &[Pair<'static>] = &[
         ("2147483648", "536870912", None),
         ("2147483652", "536870913", MUCH),
     ];
-    for (length, count, want) in rows {
-        let before = r#"{"buffers":[{"byteLength":5}],"bufferViews":[{"buffer":0,"byteLength":"#;
-        let between =
-            r#","extensions":{"EXT_meshopt_compression":{"buffer":0,"byteLength":5,"byteStride":4,"mode":"ATTRIBUTES","count":"#;
-        let text = [before, length, between, count, "}}}]}"];
-        assert_eq!(rt;
-            fault_with(rt.alloc(), &text, Some(b"abcde"))?,
-            want,
-            "{length}"
-        );
-    }
-    Ok(())
+    let before = r#"{"buffers":[{"byteLength":5}],"bufferViews":[{"buffer":0,"byteLength":"#;
+    let between =
+        r#","extensions":{"EXT_meshopt_compression":{"buffer":0,"byteLength":5,"byteStride":4,"mode":"ATTRIBUTES","count":"#;
+    let frame = (before, between, "}}}]}");
+    assert_pairs(&rt, rt.alloc(), frame, ROWS, Some(b"abcde"))
 }

@@ -1,57 +1,58 @@
 // The order of faults of different kinds.
-use super::fault_with;
-use crate::{AssetFault, Place};
+use super::assert_fault;
+use crate::Place;
+use gp_rules::AssetFault;
 use std::test::Fail;
 
 // Each row has all faults of the rows below it too: the texts of the members stand in another order than the faults.
 #[test]
 fn kinds_of_faults_have_an_order(rt: HostRuntime) -> Result<(), Fail> {
-    let images = r#"{"images":{},"#;
-    let foreign = r#""extras":{"extensions":{"KHR_meshopt_compression":0}},"#;
-    let accessors =
+    const IMAGES: &str = r#"{"images":{},"#;
+    const FOREIGN: &str = r#""extras":{"extensions":{"KHR_meshopt_compression":0}},"#;
+    const ACCESSORS: &str =
         r#""accessors":[{"componentType":5126,"type":"SCALAR","count":4294967295},{"componentType":5126,"type":"SCALAR","count":0}],"#;
-    let much = r#""accessors":[{"componentType":5126,"type":"SCALAR","count":4294967295}],"#;
-    let views =
+    const MUCH: &str =
+        r#""accessors":[{"componentType":5126,"type":"SCALAR","count":4294967295}],"#;
+    const VIEWS: &str =
         r#""bufferViews":[{"buffer":0,"byteLength":4},{"buffer":0,"byteLength":5},{"buffer":1,"byteLength":4}],"#;
-    let sound = r#""bufferViews":[{"buffer":0,"byteLength":4}],"#;
-    let buffers = r#""buffers":[{"byteLength":4},{"byteLength":4}]}"#;
-    let field = AssetFault::Field {
+    const SOUND: &str = r#""bufferViews":[{"buffer":0,"byteLength":4}],"#;
+    const BUFFERS: &str = r#""buffers":[{"byteLength":4},{"byteLength":4}]}"#;
+    const FIELD: AssetFault = AssetFault::Field {
         member: Place::Images,
         at: 0,
     };
-    let rows = [
-        ([images, foreign, accessors, views, buffers], Some(field)),
+    const ROWS: &[([&str; 5], Option<AssetFault>)] = &[
+        ([IMAGES, FOREIGN, ACCESSORS, VIEWS, BUFFERS], Some(FIELD)),
         (
-            ["{", foreign, accessors, views, buffers],
+            ["{", FOREIGN, ACCESSORS, VIEWS, BUFFERS],
             Some(AssetFault::Foreign),
         ),
         (
-            ["{", "", accessors, views, buffers],
+            ["{", "", ACCESSORS, VIEWS, BUFFERS],
             Some(AssetFault::Buffer { at: 1 }),
         ),
         (
             [
                 "{",
                 "",
-                accessors,
-                views,
+                ACCESSORS,
+                VIEWS,
                 r#""buffers":[{"byteLength":4},{"byteLength":4,"uri":"data:application/octet-stream;base64,AQIDBA=="}]}"#,
             ],
             Some(AssetFault::View { at: 1 }),
         ),
         (
-            ["{", "", accessors, sound, buffers],
+            ["{", "", ACCESSORS, SOUND, BUFFERS],
             Some(AssetFault::Accessor { at: 1 }),
         ),
         (
-            ["{", "", much, sound, buffers],
+            ["{", "", MUCH, SOUND, BUFFERS],
             Some(AssetFault::TooMuchData),
         ),
-        (["{", "", "", sound, buffers], None),
+        (["{", "", "", SOUND, BUFFERS], None),
     ];
-    for (text, want) in rows {
-        let fault = fault_with(rt.alloc(), &text, Some(b"abcd"))?;
-        assert_eq!(rt; fault, want);
+    for &(text, want) in ROWS {
+        assert_fault(&rt, rt.alloc(), &text, Some(b"abcd"), want)?;
     }
     Ok(())
 }
@@ -59,7 +60,7 @@ fn kinds_of_faults_have_an_order(rt: HostRuntime) -> Result<(), Fail> {
 // An item of another shape is a fault of fields, with its place.
 #[test]
 fn fields_have_their_faults(rt: HostRuntime) -> Result<(), Fail> {
-    let rows = [
+    const ROWS: &[(&str, Place, usize)] = &[
         ("[]", Place::Root, 0),
         (
             r#"{"extensionsUsed":["KHR_meshopt_compression",0]}"#,
@@ -79,9 +80,9 @@ fn fields_have_their_faults(rt: HostRuntime) -> Result<(), Fail> {
         ),
         (r#"{"meshes":[{}]}"#, Place::Meshes, 0),
     ];
-    for (text, member, at) in rows {
-        let fault = fault_with(rt.alloc(), &[text], None)?;
-        assert_eq!(rt; fault, Some(AssetFault::Field { member, at }), "{text}");
+    for &(text, member, at) in ROWS {
+        let want = Some(AssetFault::Field { member, at });
+        assert_fault(&rt, rt.alloc(), &[text], None, want)?;
     }
     Ok(())
 }

@@ -1,6 +1,8 @@
 // Conditions of compressed forms (EXT_meshopt_compression): 6 elements of 4 bytes, in a stream of 4 bytes.
-use super::fault_with;
-use crate::AssetFault;
+use super::{Pair, Row, assert_fault, assert_pairs};
+use gp_rules::AssetFault;
+use std::alloc::Global;
+use std::process::Abort;
 use std::test::Fail;
 
 const BEFORE: &str = r#"{"buffers":[{"byteLength":16}],"bufferViews":[{"buffer":0,"#;
@@ -19,7 +21,7 @@ const FILTER: Option<AssetFault> = Some(AssetFault::Filter { at: 0 });
 
 #[test]
 fn modes_and_filters_are_known(rt: HostRuntime) -> Result<(), Fail> {
-    let rows = [
+    const ROWS: &[Row<'static>] = &[
         (r#""ATTRIBUTES""#, None),
         (r#""ATTRIBUTE\u0053""#, None),
         (r#""TRIANGLES""#, None),
@@ -37,18 +39,39 @@ fn modes_and_filters_are_known(rt: HostRuntime) -> Result<(), Fail> {
         (r#""ATTRIBUTES","filter":"COLOR""#, EXTENSION),
         (r#""ATTRIBUTES","filter":"""#, EXTENSION),
     ];
-    for (mode, want) in rows {
+    for &(mode, want) in ROWS {
         let packed = r#""byteLength":4,"byteStride":4,"count":6,"mode":"#;
         let text = [BEFORE, r#""byteLength":24"#, BETWEEN, packed, mode, AFTER];
-        assert_eq!(rt; fault_with(rt.alloc(), &text, Some(CHUNK))?, want, "{mode}");
+        assert_fault(&rt, rt.alloc(), &text, Some(CHUNK), want)?;
     }
     Ok(())
+}
+
+// The fault of a view of so many bytes, with these sizes of elements, in this mode.
+fn assert_sizes(
+    rt: &impl Abort,
+    alloc: Global,
+    mode: &str,
+    length: &str,
+    sizes: &str,
+    want: Option<AssetFault>,
+) -> Result<(), Fail> {
+    let text = [
+        BEFORE,
+        r#""byteLength":"#,
+        length,
+        BETWEEN,
+        sizes,
+        mode,
+        AFTER,
+    ];
+    assert_fault(rt, alloc, &text, Some(CHUNK), want)
 }
 
 // By the bytes that all elements have, the size of one, and their number.
 #[test]
 fn attributes_have_strides(rt: HostRuntime) -> Result<(), Fail> {
-    let rows = [
+    const ROWS: &[Pair<'static>] = &[
         ("24", r#""byteStride":4,"count":6"#, None),
         ("24", r#""byteStride":8,"count":3"#, None),
         ("24", r#""byteStride":0,"count":6"#, EXTENSION),
@@ -62,29 +85,16 @@ fn attributes_have_strides(rt: HostRuntime) -> Result<(), Fail> {
         ("260", r#""byteStride":260,"count":1"#, EXTENSION),
         ("0", r#""byteStride":4,"count":0"#, VIEW),
     ];
-    for (length, sizes, want) in rows {
-        let mode = r#","byteLength":4,"mode":"ATTRIBUTES""#;
-        let text = [
-            BEFORE,
-            r#""byteLength":"#,
-            length,
-            BETWEEN,
-            sizes,
-            mode,
-            AFTER,
-        ];
-        assert_eq!(rt;
-            fault_with(rt.alloc(), &text, Some(CHUNK))?,
-            want,
-            "{sizes}"
-        );
+    let mode = r#","byteLength":4,"mode":"ATTRIBUTES""#;
+    for &(length, sizes, want) in ROWS {
+        assert_sizes(&rt, rt.alloc(), mode, length, sizes, want)?;
     }
     Ok(())
 }
 
 #[test]
 fn indices_have_2_or_4_bytes(rt: HostRuntime) -> Result<(), Fail> {
-    let rows = [
+    const ROWS: &[(&str, &str, Option<AssetFault>, Option<AssetFault>)] = &[
         ("24", r#""byteStride":4,"count":6"#, None, None),
         ("24", r#""byteStride":2,"count":12"#, None, None),
         ("24", r#""byteStride":8,"count":3"#, EXTENSION, EXTENSION),
@@ -101,37 +111,11 @@ fn indices_have_2_or_4_bytes(rt: HostRuntime) -> Result<(), Fail> {
             EXTENSION,
         ),
     ];
-    for (length, sizes, triangles, indices) in rows {
-        let mode = r#","byteLength":4,"mode":"TRIANGLES""#;
-        let text = [
-            BEFORE,
-            r#""byteLength":"#,
-            length,
-            BETWEEN,
-            sizes,
-            mode,
-            AFTER,
-        ];
-        assert_eq!(rt;
-            fault_with(rt.alloc(), &text, Some(CHUNK))?,
-            triangles,
-            "{sizes}"
-        );
-        let mode = r#","byteLength":4,"mode":"INDICES""#;
-        let text = [
-            BEFORE,
-            r#""byteLength":"#,
-            length,
-            BETWEEN,
-            sizes,
-            mode,
-            AFTER,
-        ];
-        assert_eq!(rt;
-            fault_with(rt.alloc(), &text, Some(CHUNK))?,
-            indices,
-            "{sizes}"
-        );
+    let of_triangles = r#","byteLength":4,"mode":"TRIANGLES""#;
+    let of_indices = r#","byteLength":4,"mode":"INDICES""#;
+    for &(length, sizes, triangles, indices) in ROWS {
+        assert_sizes(&rt, rt.alloc(), of_triangles, length, sizes, triangles)?;
+        assert_sizes(&rt, rt.alloc(), of_indices, length, sizes, indices)?;
     }
     Ok(())
 }
@@ -139,17 +123,17 @@ fn indices_have_2_or_4_bytes(rt: HostRuntime) -> Result<(), Fail> {
 // The view's own slice isn't read, and may end anywhere.
 #[test]
 fn the_view_itself_agrees(rt: HostRuntime) -> Result<(), Fail> {
-    let attributes = r#""byteLength":4,"byteStride":4,"count":6,"mode":"ATTRIBUTES""#;
-    let rows = [
+    const ATTRIBUTES: &str = r#""byteLength":4,"byteStride":4,"count":6,"mode":"ATTRIBUTES""#;
+    const ROWS: &[Pair<'static>] = &[
         (
             r#""byteLength":24,"byteOffset":4294967292"#,
-            attributes,
+            ATTRIBUTES,
             None,
         ),
-        (r#""byteLength":24,"byteStride":4"#, attributes, None),
-        (r#""byteLength":24,"byteStride":8"#, attributes, EXTENSION),
-        (r#""byteLength":24,"byteStride":6"#, attributes, VIEW),
-        (r#""byteLength":20"#, attributes, EXTENSION),
+        (r#""byteLength":24,"byteStride":4"#, ATTRIBUTES, None),
+        (r#""byteLength":24,"byteStride":8"#, ATTRIBUTES, EXTENSION),
+        (r#""byteLength":24,"byteStride":6"#, ATTRIBUTES, VIEW),
+        (r#""byteLength":20"#, ATTRIBUTES, EXTENSION),
         (
             r#""byteLength":256,"byteStride":256"#,
             r#""byteLength":4,"byteStride":256,"count":1,"mode":"ATTRIBUTES""#,
@@ -166,20 +150,13 @@ fn the_view_itself_agrees(rt: HostRuntime) -> Result<(), Fail> {
             EXTENSION,
         ),
     ];
-    for (own, packed, want) in rows {
-        let text = [BEFORE, own, BETWEEN, packed, AFTER];
-        assert_eq!(rt;
-            fault_with(rt.alloc(), &text, Some(CHUNK))?,
-            want,
-            "{own} {packed}"
-        );
-    }
-    Ok(())
+    let frame = (BEFORE, BETWEEN, AFTER);
+    assert_pairs(&rt, rt.alloc(), frame, ROWS, Some(CHUNK))
 }
 
 #[test]
 fn a_stream_ends_in_its_buffer(rt: HostRuntime) -> Result<(), Fail> {
-    let rows = [
+    const ROWS: &[Row<'static>] = &[
         (r#""byteLength":16"#, None),
         (r#""byteLength":17"#, EXTENSION),
         (r#""byteLength":4,"byteOffset":12"#, None),
@@ -187,14 +164,10 @@ fn a_stream_ends_in_its_buffer(rt: HostRuntime) -> Result<(), Fail> {
         (r#""byteLength":8,"byteOffset":4294967292"#, EXTENSION),
         (r#""byteLength":4294967295,"byteOffset":2"#, EXTENSION),
     ];
-    for (slice, want) in rows {
+    for &(slice, want) in ROWS {
         let sizes = r#","byteStride":4,"count":6,"mode":"ATTRIBUTES""#;
         let text = [BEFORE, r#""byteLength":24"#, BETWEEN, slice, sizes, AFTER];
-        assert_eq!(rt;
-            fault_with(rt.alloc(), &text, Some(CHUNK))?,
-            want,
-            "{slice}"
-        );
+        assert_fault(&rt, rt.alloc(), &text, Some(CHUNK), want)?;
     }
     Ok(())
 }
@@ -202,7 +175,7 @@ fn a_stream_ends_in_its_buffer(rt: HostRuntime) -> Result<(), Fail> {
 // The view first, then its compressed form, and last its filter.
 #[test]
 fn a_filter_is_looked_at_last(rt: HostRuntime) -> Result<(), Fail> {
-    let rows = [
+    const ROWS: &[Pair<'static>] = &[
         (
             r#""byteLength":0"#,
             r#""byteLength":4,"byteStride":4,"count":0,"mode":"a","filter":"OCTAHEDRAL""#,
@@ -234,13 +207,6 @@ fn a_filter_is_looked_at_last(rt: HostRuntime) -> Result<(), Fail> {
             EXTENSION,
         ),
     ];
-    for (own, packed, want) in rows {
-        let text = [BEFORE, own, BETWEEN, packed, AFTER];
-        assert_eq!(rt;
-            fault_with(rt.alloc(), &text, Some(CHUNK))?,
-            want,
-            "{own} {packed}"
-        );
-    }
-    Ok(())
+    let frame = (BEFORE, BETWEEN, AFTER);
+    assert_pairs(&rt, rt.alloc(), frame, ROWS, Some(CHUNK))
 }

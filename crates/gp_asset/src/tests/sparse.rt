@@ -1,7 +1,7 @@
 // Conditions of sparse accessors (sections 5.2 to 5.4): of four pairs of floats some are given apart. View 0 has 64 bytes,
 // view 1 has 24 in strides of 16, view 2 has 8.
-use super::fault_with;
-use crate::AssetFault;
+use super::{Pair, assert_pairs};
+use gp_rules::AssetFault;
 use std::test::Fail;
 
 const BEFORE: &str =
@@ -14,7 +14,7 @@ const BAD: Option<AssetFault> = Some(AssetFault::Accessor { at: 0 });
 // By their number, and the component of their places.
 #[test]
 fn places_are_numbers(rt: HostRuntime) -> Result<(), Fail> {
-    let rows = [
+    const ROWS: &[Pair<'static>] = &[
         ("1", "5121", None),
         ("1", "5123", None),
         ("1", "5125", None),
@@ -28,22 +28,15 @@ fn places_are_numbers(rt: HostRuntime) -> Result<(), Fail> {
         ("4294967295", "5121", BAD),
         ("0", "5126", BAD),
     ];
-    for (count, component, want) in rows {
-        let indices = r#","indices":{"bufferView":0,"componentType":"#;
-        let values = r#"},"values":{"bufferView":0}}}]}"#;
-        let text = [BEFORE, count, indices, component, values];
-        assert_eq!(rt;
-            fault_with(rt.alloc(), &text, Some(CHUNK))?,
-            want,
-            "{count} {component}"
-        );
-    }
-    Ok(())
+    let between = r#","indices":{"bufferView":0,"componentType":"#;
+    let after = r#"},"values":{"bufferView":0}}}]}"#;
+    let frame = (BEFORE, between, after);
+    assert_pairs(&rt, rt.alloc(), frame, ROWS, Some(CHUNK))
 }
 
 #[test]
 fn places_end_in_their_view(rt: HostRuntime) -> Result<(), Fail> {
-    let rows = [
+    const ROWS: &[Pair<'static>] = &[
         ("2", r#""bufferView":2,"componentType":5125"#, None),
         ("3", r#""bufferView":2,"componentType":5125"#, BAD),
         ("4", r#""bufferView":2,"componentType":5123"#, None),
@@ -83,22 +76,15 @@ fn places_end_in_their_view(rt: HostRuntime) -> Result<(), Fail> {
             BAD,
         ),
     ];
-    for (count, indices, want) in rows {
-        let values = r#"},"values":{"bufferView":0}}}]}"#;
-        let text = [BEFORE, count, r#","indices":{"#, indices, values];
-        assert_eq!(rt;
-            fault_with(rt.alloc(), &text, Some(CHUNK))?,
-            want,
-            "{count} {indices}"
-        );
-    }
-    Ok(())
+    let after = r#"},"values":{"bufferView":0}}}]}"#;
+    let frame = (BEFORE, r#","indices":{"#, after);
+    assert_pairs(&rt, rt.alloc(), frame, ROWS, Some(CHUNK))
 }
 
 // They stand without gaps, whatever the stride of the view.
 #[test]
 fn values_end_in_their_view(rt: HostRuntime) -> Result<(), Fail> {
-    let rows = [
+    const ROWS: &[Pair<'static>] = &[
         ("1", r#""bufferView":2"#, None),
         ("2", r#""bufferView":2"#, BAD),
         ("1", r#""bufferView":2,"byteOffset":1"#, BAD),
@@ -108,14 +94,7 @@ fn values_end_in_their_view(rt: HostRuntime) -> Result<(), Fail> {
         ("3", r#""bufferView":1"#, None),
         ("4", r#""bufferView":1"#, BAD),
     ];
-    for (count, values, want) in rows {
-        let indices = r#","indices":{"bufferView":0,"componentType":5121},"values":{"#;
-        let text = [BEFORE, count, indices, values, "}}}]}"];
-        assert_eq!(rt;
-            fault_with(rt.alloc(), &text, Some(CHUNK))?,
-            want,
-            "{count} {values}"
-        );
-    }
-    Ok(())
+    let between = r#","indices":{"bufferView":0,"componentType":5121},"values":{"#;
+    let frame = (BEFORE, between, "}}}]}");
+    assert_pairs(&rt, rt.alloc(), frame, ROWS, Some(CHUNK))
 }

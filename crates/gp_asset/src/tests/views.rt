@@ -1,9 +1,15 @@
 // Conditions of buffer views (section 5.11).
-use super::fault_with;
-use crate::AssetFault;
+use super::{Row, assert_fault, assert_rows};
+use gp_rules::AssetFault;
 use std::test::Fail;
 
 const BEFORE: &str = r#"{"buffers":[{"byteLength":16}],"bufferViews":["#;
+
+// A view of buffer 0 with other members.
+const ONE: (&str, &str) = (
+    r#"{"buffers":[{"byteLength":16}],"bufferViews":[{"buffer":0,"#,
+    "}]}",
+);
 
 const CHUNK: &[u8] = b"0123456789abcdef";
 
@@ -11,7 +17,7 @@ const BAD: Option<AssetFault> = Some(AssetFault::View { at: 0 });
 
 #[test]
 fn a_view_has_a_length_and_a_stride(rt: HostRuntime) -> Result<(), Fail> {
-    let rows = [
+    const ROWS: &[Row<'static>] = &[
         (r#""byteLength":1"#, None),
         (r#""byteLength":0"#, BAD),
         (r#""byteLength":0,"byteStride":0"#, BAD),
@@ -24,20 +30,12 @@ fn a_view_has_a_length_and_a_stride(rt: HostRuntime) -> Result<(), Fail> {
         (r#""byteLength":1,"byteStride":256"#, BAD),
         (r#""byteLength":1,"byteStride":4294967292"#, BAD),
     ];
-    for (members, want) in rows {
-        let text = [BEFORE, r#"{"buffer":0,"#, members, "}]}"];
-        assert_eq!(rt;
-            fault_with(rt.alloc(), &text, Some(CHUNK))?,
-            want,
-            "{members}"
-        );
-    }
-    Ok(())
+    assert_rows(&rt, rt.alloc(), ONE, ROWS, Some(CHUNK))
 }
 
 #[test]
 fn a_view_ends_in_its_buffer(rt: HostRuntime) -> Result<(), Fail> {
-    let rows = [
+    const ROWS: &[Row<'static>] = &[
         (r#""byteLength":16"#, None),
         (r#""byteLength":17"#, BAD),
         (r#""byteLength":15,"byteOffset":1"#, None),
@@ -49,42 +47,33 @@ fn a_view_ends_in_its_buffer(rt: HostRuntime) -> Result<(), Fail> {
         (r#""byteLength":4294967295,"byteOffset":2"#, BAD),
         (r#""byteLength":17,"byteStride":6"#, BAD),
     ];
-    for (members, want) in rows {
-        let text = [BEFORE, r#"{"buffer":0,"#, members, "}]}"];
-        assert_eq!(rt;
-            fault_with(rt.alloc(), &text, Some(CHUNK))?,
-            want,
-            "{members}"
-        );
-    }
-    Ok(())
+    assert_rows(&rt, rt.alloc(), ONE, ROWS, Some(CHUNK))
 }
 
 // The chunk is longer than what the buffer says, and the lowest view is named, whatever its fault.
 #[test]
 fn the_first_view_is_named(rt: HostRuntime) -> Result<(), Fail> {
-    let good = r#"{"buffer":0,"byteLength":16}"#;
-    let past = r#",{"buffer":0,"byteLength":17}"#;
-    let extension =
+    const GOOD: &str = r#"{"buffer":0,"byteLength":16}"#;
+    const PAST: &str = r#",{"buffer":0,"byteLength":17}"#;
+    const EXTENSION: &str =
         r#"{"buffer":0,"byteLength":8,"extensions":{"EXT_meshopt_compression":{"buffer":0,"byteLength":4,"byteStride":4,"count":3,"mode":"ATTRIBUTES"}}}"#;
-    let filter =
+    const FILTER: &str =
         r#"{"buffer":0,"byteLength":8,"extensions":{"EXT_meshopt_compression":{"buffer":0,"byteLength":4,"byteStride":4,"count":2,"mode":"ATTRIBUTES","filter":"OCTAHEDRAL"}}}"#;
-    let rows = [
-        ([good, past, past], Some(AssetFault::View { at: 1 })),
-        ([good, "", past], Some(AssetFault::View { at: 1 })),
-        ([extension, past, ""], Some(AssetFault::Extension { at: 0 })),
-        ([filter, past, ""], Some(AssetFault::Filter { at: 0 })),
-        ([filter, ",", extension], Some(AssetFault::Filter { at: 0 })),
+    const ROWS: &[([&str; 3], Option<AssetFault>)] = &[
+        ([GOOD, PAST, PAST], Some(AssetFault::View { at: 1 })),
+        ([GOOD, "", PAST], Some(AssetFault::View { at: 1 })),
+        ([EXTENSION, PAST, ""], Some(AssetFault::Extension { at: 0 })),
+        ([FILTER, PAST, ""], Some(AssetFault::Filter { at: 0 })),
+        ([FILTER, ",", EXTENSION], Some(AssetFault::Filter { at: 0 })),
         (
-            [extension, ",", filter],
+            [EXTENSION, ",", FILTER],
             Some(AssetFault::Extension { at: 0 }),
         ),
-        ([good, ",", filter], Some(AssetFault::Filter { at: 1 })),
+        ([GOOD, ",", FILTER], Some(AssetFault::Filter { at: 1 })),
     ];
-    for ([first, second, third], want) in rows {
+    for &([first, second, third], want) in ROWS {
         let text = [BEFORE, first, second, third, "]}"];
-        let fault = fault_with(rt.alloc(), &text, Some(b"0123456789abcdef0"))?;
-        assert_eq!(rt; fault, want, "{first}{second}{third}");
+        assert_fault(&rt, rt.alloc(), &text, Some(b"0123456789abcdef0"), want)?;
     }
     Ok(())
 }

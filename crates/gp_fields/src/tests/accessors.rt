@@ -1,5 +1,5 @@
 // The rows of an accessor and of its sparse part (sections 5.1 to 5.4).
-use super::{Kind, fault_with, odd_one};
+use super::{Kind, odd_row, odd_text};
 use crate::Place;
 use std::test::Fail;
 
@@ -11,7 +11,7 @@ const SPARSE: &str =
 
 #[test]
 fn refuses_an_accessor(rt: HostRuntime) -> Result<(), Fail> {
-    let rows = [
+    let rows = &[
         ("", Kind::Object, ""),
         (
             r#"{"componentType":"#,
@@ -40,22 +40,14 @@ fn refuses_an_accessor(rt: HostRuntime) -> Result<(), Fail> {
             "}",
         ),
     ];
-    for (before, kind, after) in rows {
-        let odd = odd_one(
-            rt.alloc(),
-            (Place::Accessors, 1),
-            (FRAME, before),
-            kind,
-            (after, "]}"),
-        )?;
-        assert_eq!(rt; odd, None, "{before}");
-    }
+    let odd = odd_row(rt.alloc(), (Place::Accessors, 1), (FRAME, "]}"), rows)?;
+    assert_eq!(rt; odd, None);
     Ok(())
 }
 
 #[test]
 fn refuses_a_sparse_part(rt: HostRuntime) -> Result<(), Fail> {
-    let rows = [
+    let rows = &[
         (
             r#"{"count":"#,
             Kind::Whole,
@@ -97,53 +89,46 @@ fn refuses_a_sparse_part(rt: HostRuntime) -> Result<(), Fail> {
             "}}}",
         ),
     ];
-    for (before, kind, after) in rows {
-        let odd = odd_one(
-            rt.alloc(),
-            (Place::Accessors, 1),
-            (SPARSE, before),
-            kind,
-            (after, "]}"),
-        )?;
-        assert_eq!(rt; odd, None, "{before}");
-    }
+    let odd = odd_row(rt.alloc(), (Place::Accessors, 1), (SPARSE, "]}"), rows)?;
+    assert_eq!(rt; odd, None);
     Ok(())
 }
 
 #[test]
 fn takes_an_accessor(rt: HostRuntime) -> Result<(), Fail> {
-    let items = [
+    let items = &[
         r#"{"componentType":0,"count":0,"type":""}"#,
         r#"{"type":"MAT4","normalized":null,"byteOffset":4294967295,"count":4294967295,"bufferView":0,"componentType":4294967295}"#,
         r#"{"componentType":1,"count":1,"type":"a","sparse":{"count":1,"indices":{"bufferView":0,"componentType":1},"values":{"bufferView":0}}}"#,
         r#"{"componentType":1,"count":1,"type":"a","sparse":{"values":{"byteOffset":1,"bufferView":0},"count":1,"indices":{"bufferView":0,"byteOffset":1,"componentType":1}}}"#,
     ];
-    for item in items {
-        let fault = fault_with(rt.alloc(), (FRAME, ""), item, ("", "]}"))?;
-        assert_eq!(rt; fault, None, "{item}");
-    }
+    let odd = odd_text(rt.alloc(), None, (FRAME, "]}"), items)?;
+    assert_eq!(rt; odd, None);
     Ok(())
 }
 
 // Each member that has to be there, left out in turn.
 #[test]
 fn refuses_an_accessor_without_a_member(rt: HostRuntime) -> Result<(), Fail> {
-    let items = [
+    let items = &[
         r#"{"count":1,"type":"a"}"#,
         r#"{"componentType":1,"type":"a"}"#,
         r#"{"componentType":1,"count":1}"#,
     ];
-    for item in items {
-        let fault = fault_with(rt.alloc(), (FRAME, ""), item, ("", "]}"))?;
-        assert_eq!(rt; fault, Some((Place::Accessors, 1)), "{item}");
-    }
+    let odd = odd_text(
+        rt.alloc(),
+        Some((Place::Accessors, 1)),
+        (FRAME, "]}"),
+        items,
+    )?;
+    assert_eq!(rt; odd, None);
     Ok(())
 }
 
 // Each member that has to be there, left out in turn.
 #[test]
 fn refuses_a_sparse_part_without_a_member(rt: HostRuntime) -> Result<(), Fail> {
-    let items = [
+    let items = &[
         r#"{"indices":{"bufferView":0,"componentType":1},"values":{"bufferView":0}}"#,
         r#"{"count":1,"values":{"bufferView":0}}"#,
         r#"{"count":1,"indices":{"bufferView":0,"componentType":1}}"#,
@@ -151,9 +136,12 @@ fn refuses_a_sparse_part_without_a_member(rt: HostRuntime) -> Result<(), Fail> {
         r#"{"count":1,"indices":{"bufferView":0},"values":{"bufferView":0}}"#,
         r#"{"count":1,"indices":{"bufferView":0,"componentType":1},"values":{}}"#,
     ];
-    for item in items {
-        let fault = fault_with(rt.alloc(), (SPARSE, ""), item, ("}", "]}"))?;
-        assert_eq!(rt; fault, Some((Place::Accessors, 1)), "{item}");
-    }
+    let odd = odd_text(
+        rt.alloc(),
+        Some((Place::Accessors, 1)),
+        (SPARSE, "}]}"),
+        items,
+    )?;
+    assert_eq!(rt; odd, None);
     Ok(())
 }

@@ -1,6 +1,7 @@
 // What is read of an asset with each field, and with those alone that have to be there.
 use crate::{SamplerFields, SparseFields, SparseIndicesFields, SparseValuesFields, read_fields};
-use gp_json::{Lexeme, read};
+use gp_json::read;
+use gp_tree::Lexeme;
 use std::test::Fail;
 
 const TEXT: &[u8] = br#"{

@@ -1,5 +1,5 @@
 // The rows of a mesh and of its primitives (sections 5.23 and 5.24).
-use super::{Kind, fault_with, odd_one};
+use super::{Kind, odd_row, odd_text};
 use crate::Place;
 use std::test::Fail;
 
@@ -8,7 +8,7 @@ const FRAME: &str =
 
 #[test]
 fn refuses_a_mesh(rt: HostRuntime) -> Result<(), Fail> {
-    let rows = [
+    let rows = &[
         ("", Kind::Object, ""),
         (r#"{"primitives":"#, Kind::List, "}"),
         (r#"{"primitives":[{"attributes":{}},"#, Kind::Object, "]}"),
@@ -29,22 +29,14 @@ fn refuses_a_mesh(rt: HostRuntime) -> Result<(), Fail> {
             r#","B":0}}]}"#,
         ),
     ];
-    for (before, kind, after) in rows {
-        let odd = odd_one(
-            rt.alloc(),
-            (Place::Meshes, 1),
-            (FRAME, before),
-            kind,
-            (after, "]}"),
-        )?;
-        assert_eq!(rt; odd, None, "{before}");
-    }
+    let odd = odd_row(rt.alloc(), (Place::Meshes, 1), (FRAME, "]}"), rows)?;
+    assert_eq!(rt; odd, None);
     Ok(())
 }
 
 #[test]
 fn refuses_what_a_primitive_may_have(rt: HostRuntime) -> Result<(), Fail> {
-    let rows = [
+    let rows = &[
         (
             r#"{"primitives":[{"attributes":{},"indices":"#,
             Kind::Reference,
@@ -81,47 +73,35 @@ fn refuses_what_a_primitive_may_have(rt: HostRuntime) -> Result<(), Fail> {
             "}]}]}",
         ),
     ];
-    for (before, kind, after) in rows {
-        let odd = odd_one(
-            rt.alloc(),
-            (Place::Meshes, 1),
-            (FRAME, before),
-            kind,
-            (after, "]}"),
-        )?;
-        assert_eq!(rt; odd, None, "{before}");
-    }
+    let odd = odd_row(rt.alloc(), (Place::Meshes, 1), (FRAME, "]}"), rows)?;
+    assert_eq!(rt; odd, None);
     Ok(())
 }
 
 #[test]
 fn takes_a_mesh(rt: HostRuntime) -> Result<(), Fail> {
-    let items = [
+    let items = &[
         r#"{"primitives":[],"weights":null}"#,
         r#"{"primitives":[{"attributes":{}}]}"#,
         r#"{"primitives":[{"attributes":{"":0,"_A":0},"material":null}]}"#,
         r#"{"primitives":[{"targets":[],"indices":0,"mode":0,"attributes":{"A":0}},{"attributes":{}}]}"#,
         r#"{"primitives":[{"attributes":{},"mode":4294967295,"targets":[{},{"A":0,"B":0}]}]}"#,
     ];
-    for item in items {
-        let fault = fault_with(rt.alloc(), (FRAME, ""), item, ("", "]}"))?;
-        assert_eq!(rt; fault, None, "{item}");
-    }
+    let odd = odd_text(rt.alloc(), None, (FRAME, "]}"), items)?;
+    assert_eq!(rt; odd, None);
     Ok(())
 }
 
 // Each member that has to be there, left out in turn.
 #[test]
 fn refuses_a_mesh_without_a_member(rt: HostRuntime) -> Result<(), Fail> {
-    let items = [
+    let items = &[
         r#"{}"#,
         r#"{"primitives":[{}]}"#,
         r#"{"primitives":[{"mode":4}]}"#,
         r#"{"primitives":[{"attributes":{}},{"indices":0}]}"#,
     ];
-    for item in items {
-        let fault = fault_with(rt.alloc(), (FRAME, ""), item, ("", "]}"))?;
-        assert_eq!(rt; fault, Some((Place::Meshes, 1)), "{item}");
-    }
+    let odd = odd_text(rt.alloc(), Some((Place::Meshes, 1)), (FRAME, "]}"), items)?;
+    assert_eq!(rt; odd, None);
     Ok(())
 }

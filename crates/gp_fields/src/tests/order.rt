@@ -1,14 +1,17 @@
 // Members of the root, and the order in which they are looked at (section 5.17).
-use super::{Kind, fault_of, fault_with, odd_one};
+use super::{Kind, odd_case, odd_text, odd_value};
 use crate::Place;
 use std::test::Fail;
 
 #[test]
 fn the_root_is_an_object(rt: HostRuntime) -> Result<(), Fail> {
-    for text in Kind::Object.others() {
-        let fault = fault_of(rt.alloc(), text.as_bytes())?;
-        assert_eq!(rt; fault, Some((Place::Root, 0)), "{text}");
-    }
+    let odd = odd_text(
+        rt.alloc(),
+        Some((Place::Root, 0)),
+        ("", ""),
+        Kind::Object.others(),
+    )?;
+    assert_eq!(rt; odd, None);
     Ok(())
 }
 
@@ -26,7 +29,7 @@ fn members_are_lists(rt: HostRuntime) -> Result<(), Fail> {
         (Place::Images, r#"{"images":"#),
     ];
     for (member, before) in rows {
-        let odd = odd_one(rt.alloc(), (member, 0), (before, ""), Kind::List, ("}", ""))?;
+        let odd = odd_value(rt.alloc(), (member, 0), (before, "}"), ("", Kind::List, ""))?;
         assert_eq!(rt; odd, None, "{before}");
     }
     Ok(())
@@ -58,7 +61,7 @@ fn names_of_extensions_are_texts(rt: HostRuntime) -> Result<(), Fail> {
         ),
     ];
     for (place, before, after) in rows {
-        let odd = odd_one(rt.alloc(), place, (before, ""), Kind::Text, (after, ""))?;
+        let odd = odd_value(rt.alloc(), place, ("", ""), (before, Kind::Text, after))?;
         assert_eq!(rt; odd, None, "{before}");
     }
     Ok(())
@@ -67,86 +70,88 @@ fn names_of_extensions_are_texts(rt: HostRuntime) -> Result<(), Fail> {
 // In each text some members are broken, those that are looked at first last.
 #[test]
 fn the_first_member_is_named(rt: HostRuntime) -> Result<(), Fail> {
-    let rows = [
+    let cases = &[
         (
             r#"{"images":null,"animations":null,"skins":null,"meshes":null,"accessors":null,"bufferViews":null,"buffers":null,"extensionsRequired":null,"extensionsUsed":null}"#,
-            Place::ExtensionsUsed,
+            Some((Place::ExtensionsUsed, 0)),
         ),
         (
             r#"{"images":null,"animations":null,"skins":null,"meshes":null,"accessors":null,"bufferViews":null,"buffers":null,"extensionsRequired":null}"#,
-            Place::ExtensionsRequired,
+            Some((Place::ExtensionsRequired, 0)),
         ),
         (
             r#"{"images":null,"animations":null,"skins":null,"meshes":null,"accessors":null,"bufferViews":null,"buffers":null}"#,
-            Place::Buffers,
+            Some((Place::Buffers, 0)),
         ),
         (
             r#"{"images":null,"animations":null,"skins":null,"meshes":null,"accessors":null,"bufferViews":null}"#,
-            Place::BufferViews,
+            Some((Place::BufferViews, 0)),
         ),
         (
             r#"{"images":null,"animations":null,"skins":null,"meshes":null,"accessors":null}"#,
-            Place::Accessors,
+            Some((Place::Accessors, 0)),
         ),
         (
             r#"{"images":null,"animations":null,"skins":null,"meshes":null}"#,
-            Place::Meshes,
+            Some((Place::Meshes, 0)),
         ),
         (
             r#"{"images":null,"animations":null,"skins":null}"#,
-            Place::Skins,
+            Some((Place::Skins, 0)),
         ),
-        (r#"{"images":null,"animations":null}"#, Place::Animations),
-        (r#"{"images":null}"#, Place::Images),
+        (
+            r#"{"images":null,"animations":null}"#,
+            Some((Place::Animations, 0)),
+        ),
+        (r#"{"images":null}"#, Some((Place::Images, 0))),
     ];
-    for (text, member) in rows {
-        let fault = fault_of(rt.alloc(), text.as_bytes())?;
-        assert_eq!(rt; fault, Some((member, 0)), "{text}");
-    }
+    let odd = odd_case(rt.alloc(), "", cases)?;
+    assert_eq!(rt; odd, None);
     Ok(())
 }
 
 #[test]
 fn the_first_item_is_named(rt: HostRuntime) -> Result<(), Fail> {
-    let rows = [
+    let cases = &[
         (
             r#"{"extensionsUsed":["a",1,null,"b",1]}"#,
-            (Place::ExtensionsUsed, 1),
+            Some((Place::ExtensionsUsed, 1)),
         ),
         (
             r#"{"extensionsRequired":["a","b",1,null]}"#,
-            (Place::ExtensionsRequired, 2),
+            Some((Place::ExtensionsRequired, 2)),
         ),
         (
             r#"{"buffers":[{"byteLength":1},{},0,{"byteLength":1}]}"#,
-            (Place::Buffers, 1),
+            Some((Place::Buffers, 1)),
         ),
         (
             r#"{"buffers":[{"byteLength":1}],"bufferViews":[{"buffer":0,"byteLength":1},{"buffer":0,"byteLength":1},{"buffer":1,"byteLength":1},{}]}"#,
-            (Place::BufferViews, 2),
+            Some((Place::BufferViews, 2)),
         ),
         (
             r#"{"accessors":[{"componentType":1,"count":1,"type":"a"},{"componentType":1,"count":1.0,"type":"a"},{}]}"#,
-            (Place::Accessors, 1),
+            Some((Place::Accessors, 1)),
         ),
         (
             r#"{"meshes":[{"primitives":[]},{"primitives":[0]},{}]}"#,
-            (Place::Meshes, 1),
+            Some((Place::Meshes, 1)),
         ),
         (
             r#"{"skins":[{},{},{"inverseBindMatrices":0},null]}"#,
-            (Place::Skins, 2),
+            Some((Place::Skins, 2)),
         ),
         (
             r#"{"animations":[{"samplers":[]},{"samplers":[{}]},{}]}"#,
-            (Place::Animations, 1),
+            Some((Place::Animations, 1)),
         ),
-        (r#"{"images":[{"bufferView":0},[],{}]}"#, (Place::Images, 0)),
+        (
+            r#"{"images":[{"bufferView":0},[],{}]}"#,
+            Some((Place::Images, 0)),
+        ),
     ];
-    for (text, place) in rows {
-        let fault = fault_of(rt.alloc(), text.as_bytes())?;
-        assert_eq!(rt; fault, Some(place), "{text}");
-    }
+    let odd = odd_case(rt.alloc(), "", cases)?;
+    assert_eq!(rt; odd, None);
     Ok(())
 }
 
@@ -156,7 +161,7 @@ const THINGS: &str =
 
 #[test]
 fn references_are_below_the_lengths(rt: HostRuntime) -> Result<(), Fail> {
-    let rows = [
+    let cases = &[
         ("}", None),
         (r#","images":[{"bufferView":2}]}"#, None),
         (r#","images":[{"bufferView":3}]}"#, Some((Place::Images, 0))),
@@ -194,17 +199,15 @@ fn references_are_below_the_lengths(rt: HostRuntime) -> Result<(), Fail> {
             Some((Place::Animations, 0)),
         ),
     ];
-    for (after, place) in rows {
-        let fault = fault_with(rt.alloc(), (THINGS, ""), after, ("", ""))?;
-        assert_eq!(rt; fault, place, "{after}");
-    }
+    let odd = odd_case(rt.alloc(), THINGS, cases)?;
+    assert_eq!(rt; odd, None);
     Ok(())
 }
 
 // A member that is absent is an empty list, to which no reference points.
 #[test]
 fn members_may_be_absent(rt: HostRuntime) -> Result<(), Fail> {
-    let rows = [
+    let cases = &[
         ("{}", None),
         (
             r#"{"asset":null,"scene":"","nodes":{},"extensions":[]}"#,
@@ -240,9 +243,7 @@ fn members_may_be_absent(rt: HostRuntime) -> Result<(), Fail> {
         ),
         (r#"{"images":[{"bufferView":0}]}"#, Some((Place::Images, 0))),
     ];
-    for (text, place) in rows {
-        let fault = fault_of(rt.alloc(), text.as_bytes())?;
-        assert_eq!(rt; fault, place, "{text}");
-    }
+    let odd = odd_case(rt.alloc(), "", cases)?;
+    assert_eq!(rt; odd, None);
     Ok(())
 }

@@ -1,5 +1,5 @@
 // The rows of a skin (section 5.28), an animation (sections 5.5 and 5.8) and an image (section 5.18).
-use super::{Kind, fault_with, odd_one};
+use super::{Kind, odd_row, odd_text};
 use crate::Place;
 use std::test::Fail;
 
@@ -13,41 +13,30 @@ const IMAGES: &str =
     r#"{"buffers":[{"byteLength":1}],"bufferViews":[{"buffer":0,"byteLength":1}],"images":[{"bufferView":0},"#;
 
 #[test]
-fn refuses_a_skin_and_an_image(rt: HostRuntime) -> Result<(), Fail> {
-    let rows = [
-        (SKINS, Place::Skins, "", Kind::Object, ""),
-        (
-            SKINS,
-            Place::Skins,
-            r#"{"inverseBindMatrices":"#,
-            Kind::Reference,
-            "}",
-        ),
-        (IMAGES, Place::Images, "", Kind::Object, ""),
-        (
-            IMAGES,
-            Place::Images,
-            r#"{"bufferView":"#,
-            Kind::Reference,
-            "}",
-        ),
+fn refuses_a_skin(rt: HostRuntime) -> Result<(), Fail> {
+    let rows = &[
+        ("", Kind::Object, ""),
+        (r#"{"inverseBindMatrices":"#, Kind::Reference, "}"),
     ];
-    for (frame, member, before, kind, after) in rows {
-        let odd = odd_one(
-            rt.alloc(),
-            (member, 1),
-            (frame, before),
-            kind,
-            (after, "]}"),
-        )?;
-        assert_eq!(rt; odd, None, "{before}");
-    }
+    let odd = odd_row(rt.alloc(), (Place::Skins, 1), (SKINS, "]}"), rows)?;
+    assert_eq!(rt; odd, None);
+    Ok(())
+}
+
+#[test]
+fn refuses_an_image(rt: HostRuntime) -> Result<(), Fail> {
+    let rows = &[
+        ("", Kind::Object, ""),
+        (r#"{"bufferView":"#, Kind::Reference, "}"),
+    ];
+    let odd = odd_row(rt.alloc(), (Place::Images, 1), (IMAGES, "]}"), rows)?;
+    assert_eq!(rt; odd, None);
     Ok(())
 }
 
 #[test]
 fn refuses_an_animation(rt: HostRuntime) -> Result<(), Fail> {
-    let rows = [
+    let rows = &[
         ("", Kind::Object, ""),
         (r#"{"samplers":"#, Kind::List, "}"),
         (
@@ -66,32 +55,27 @@ fn refuses_an_animation(rt: HostRuntime) -> Result<(), Fail> {
             "}]}",
         ),
     ];
-    for (before, kind, after) in rows {
-        let odd = odd_one(
-            rt.alloc(),
-            (Place::Animations, 1),
-            (ANIMATIONS, before),
-            kind,
-            (after, "]}"),
-        )?;
-        assert_eq!(rt; odd, None, "{before}");
-    }
+    let odd = odd_row(rt.alloc(), (Place::Animations, 1), (ANIMATIONS, "]}"), rows)?;
+    assert_eq!(rt; odd, None);
     Ok(())
 }
 
 // Each member that has to be there, left out in turn.
 #[test]
 fn refuses_an_animation_without_a_member(rt: HostRuntime) -> Result<(), Fail> {
-    let items = [
+    let items = &[
         r#"{}"#,
         r#"{"samplers":[{}]}"#,
         r#"{"samplers":[{"output":0}]}"#,
         r#"{"samplers":[{"input":0}]}"#,
         r#"{"samplers":[{"input":0,"output":0},{"input":0}]}"#,
     ];
-    for item in items {
-        let fault = fault_with(rt.alloc(), (ANIMATIONS, ""), item, ("", "]}"))?;
-        assert_eq!(rt; fault, Some((Place::Animations, 1)), "{item}");
-    }
+    let odd = odd_text(
+        rt.alloc(),
+        Some((Place::Animations, 1)),
+        (ANIMATIONS, "]}"),
+        items,
+    )?;
+    assert_eq!(rt; odd, None);
     Ok(())
 }

@@ -1,5 +1,5 @@
 // The rows of a buffer view (section 5.11), and of its extension object.
-use super::{Kind, fault_with, odd_one};
+use super::{Kind, odd_row, odd_text};
 use crate::Place;
 use std::test::Fail;
 
@@ -10,7 +10,7 @@ const PACKED: &str =
 
 #[test]
 fn refuses_a_view(rt: HostRuntime) -> Result<(), Fail> {
-    let rows = [
+    let rows = &[
         ("", Kind::Object, ""),
         (r#"{"buffer":"#, Kind::Reference, r#","byteLength":1}"#),
         (r#"{"buffer":0,"byteLength":"#, Kind::Whole, "}"),
@@ -30,22 +30,14 @@ fn refuses_a_view(rt: HostRuntime) -> Result<(), Fail> {
             "}",
         ),
     ];
-    for (before, kind, after) in rows {
-        let odd = odd_one(
-            rt.alloc(),
-            (Place::BufferViews, 1),
-            (FRAME, before),
-            kind,
-            (after, "]}"),
-        )?;
-        assert_eq!(rt; odd, None, "{before}");
-    }
+    let odd = odd_row(rt.alloc(), (Place::BufferViews, 1), (FRAME, "]}"), rows)?;
+    assert_eq!(rt; odd, None);
     Ok(())
 }
 
 #[test]
 fn refuses_a_packed_view(rt: HostRuntime) -> Result<(), Fail> {
-    let rows = [
+    let rows = &[
         ("", Kind::Object, "}}"),
         (
             r#"{"buffer":"#,
@@ -83,22 +75,14 @@ fn refuses_a_packed_view(rt: HostRuntime) -> Result<(), Fail> {
             "}}}",
         ),
     ];
-    for (before, kind, after) in rows {
-        let odd = odd_one(
-            rt.alloc(),
-            (Place::BufferViews, 1),
-            (PACKED, before),
-            kind,
-            (after, "]}"),
-        )?;
-        assert_eq!(rt; odd, None, "{before}");
-    }
+    let odd = odd_row(rt.alloc(), (Place::BufferViews, 1), (PACKED, "]}"), rows)?;
+    assert_eq!(rt; odd, None);
     Ok(())
 }
 
 #[test]
 fn takes_a_view(rt: HostRuntime) -> Result<(), Fail> {
-    let items = [
+    let items = &[
         r#"{"buffer":0,"byteLength":4294967295}"#,
         r#"{"byteStride":4294967295,"byteLength":0,"byteOffset":0,"buffer":0,"target":null}"#,
         r#"{"buffer":0,"byteLength":1,"extensions":{}}"#,
@@ -106,28 +90,29 @@ fn takes_a_view(rt: HostRuntime) -> Result<(), Fail> {
         r#"{"buffer":0,"byteLength":1,"extensions":{"EXT_meshopt_compression":{"buffer":0,"byteLength":1,"byteStride":4,"count":1,"mode":"a"}}}"#,
         r#"{"buffer":0,"byteLength":1,"extensions":{"EXT_meshopt_compression":{"filter":"","byteOffset":7,"buffer":0,"byteLength":1,"byteStride":4,"count":1,"mode":""}}}"#,
     ];
-    for item in items {
-        let fault = fault_with(rt.alloc(), (FRAME, ""), item, ("", "]}"))?;
-        assert_eq!(rt; fault, None, "{item}");
-    }
+    let odd = odd_text(rt.alloc(), None, (FRAME, "]}"), items)?;
+    assert_eq!(rt; odd, None);
     Ok(())
 }
 
 // Each member that has to be there, left out in turn.
 #[test]
 fn refuses_a_view_without_a_member(rt: HostRuntime) -> Result<(), Fail> {
-    let items = [r#"{"byteLength":1}"#, r#"{"buffer":0}"#];
-    for item in items {
-        let fault = fault_with(rt.alloc(), (FRAME, ""), item, ("", "]}"))?;
-        assert_eq!(rt; fault, Some((Place::BufferViews, 1)), "{item}");
-    }
+    let items = &[r#"{"byteLength":1}"#, r#"{"buffer":0}"#];
+    let odd = odd_text(
+        rt.alloc(),
+        Some((Place::BufferViews, 1)),
+        (FRAME, "]}"),
+        items,
+    )?;
+    assert_eq!(rt; odd, None);
     Ok(())
 }
 
 // Each member that has to be there, left out in turn.
 #[test]
 fn refuses_a_packed_view_without_a_member(rt: HostRuntime) -> Result<(), Fail> {
-    let items = [
+    let items = &[
         r#"{}"#,
         r#"{"byteLength":1,"byteStride":4,"count":1,"mode":"a"}"#,
         r#"{"buffer":0,"byteStride":4,"count":1,"mode":"a"}"#,
@@ -135,9 +120,12 @@ fn refuses_a_packed_view_without_a_member(rt: HostRuntime) -> Result<(), Fail> {
         r#"{"buffer":0,"byteLength":1,"byteStride":4,"mode":"a"}"#,
         r#"{"buffer":0,"byteLength":1,"byteStride":4,"count":1}"#,
     ];
-    for item in items {
-        let fault = fault_with(rt.alloc(), (PACKED, ""), item, ("}}", "]}"))?;
-        assert_eq!(rt; fault, Some((Place::BufferViews, 1)), "{item}");
-    }
+    let odd = odd_text(
+        rt.alloc(),
+        Some((Place::BufferViews, 1)),
+        (PACKED, "}}]}"),
+        items,
+    )?;
+    assert_eq!(rt; odd, None);
     Ok(())
 }

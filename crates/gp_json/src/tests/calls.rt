@@ -1,8 +1,6 @@
 // The calls that look into a tree.
-use crate::key::{key_is, same_key};
-use crate::lexeme::Lexeme;
 use crate::reading::read;
-use crate::tree::{Member, Members, Tree, Trees};
+use gp_tree::{Lexeme, Member, Members, Tree, Trees, key_is, same_key};
 use std::alloc::Global;
 use std::test::Fail;
 
@@ -53,7 +51,7 @@ fn takes_ascii(rt: HostRuntime) -> Result<(), Fail> {
 }
 
 fn lexeme(alloc: Global, spelling: &str) -> Result<Lexeme, Fail> {
-    Ok(Lexeme::from_vec(Vec::from_slice(alloc, spelling.as_bytes())?))
+    Ok(Lexeme::from_slice(alloc, spelling.as_bytes())?)
 }
 
 #[test]
@@ -131,7 +129,8 @@ fn makes_lists_objects_and_lexemes_of_vectors(rt: HostRuntime) -> Result<(), Fai
     let alloc = rt.alloc();
     let bytes = lexeme(alloc, "\\n")?;
     assert_eq!(rt; bytes.as_slice(), b"\\n".as_slice());
-    assert_eq!(rt; bytes.into_vec().as_slice(), b"\\n".as_slice());
+    let long = lexeme(alloc, "sixteen bytes and more")?;
+    assert_eq!(rt; long.as_slice(), b"sixteen bytes and more".as_slice());
     let mut items = Vec::new(alloc);
     items.push(Tree::Truth(true))?;
     let list = Trees::from_vec(items);

@@ -1,12 +1,12 @@
 // The calls that make and edit a tree.
 ghost use Rattle.std.specs.Prelude.{IsTrue, IsSome, option_and_then};
-ghost use Rattle.gp_json.specs.Plain.{plain};
-ghost use Rattle.gp_json.specs.Look.{item};
-ghost use Rattle.gp_json.specs.Find.{find_member};
+ghost use Rattle.gp_tree.specs.Plain.{plain};
+ghost use Rattle.gp_tree.specs.Look.{item};
+ghost use Rattle.gp_tree.specs.Find.{find_member};
 
 use crate::printing::print;
 use crate::reading::read;
-use crate::tree::Tree;
+use gp_tree::Tree;
 use std::alloc::Global;
 use std::test::Fail;
 

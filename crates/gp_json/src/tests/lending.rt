@@ -1,8 +1,8 @@
 // What is written to a lent item or value stands in its place, and all else is printed as before.
 use crate::printing::print;
 use crate::reading::parse;
-use crate::tree::Tree;
 use gp_host::NoMemory;
+use gp_tree::Tree;
 use std::alloc::Global;
 
 fn tree_of(alloc: Global, text: &str) -> Result<Tree, NoMemory> {

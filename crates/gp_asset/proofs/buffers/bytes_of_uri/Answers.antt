@@ -1,6 +1,6 @@
 use Rattle.std.proofs.Common.{rules, ◌≡◌, Some}
-use Rattle.gp_json.specs.Key.{units}
-use Rattle.gp_json.specs.Values.{ascii_of}
+use Rattle.gp_tree.specs.Key.{units}
+use Rattle.gp_tree.specs.Values.{ascii_of}
 use Rattle.gp_asset.proofs.Held.{decoded}
 use Rattle.gp_asset.proofs.buffers.bytes_of_uri.Goals as goal
 

@@ -1,8 +1,8 @@
 use Rattle.std.proofs.Common.{◌≡◌, map, drop, option_map}
-use Rattle.gp_asset.specs.Checks.{each}
+use Rattle.gp_rules.specs.Checks.{each}
 use Rattle.gp_asset.specs.Buffers.{buffer_of}
 use Rattle.gp_asset.specs.Stored.{bytes_in}
-use Rattle.gp_asset.proofs.Each.{behind}
+use Rattle.gp_rules.proofs.Each.{behind}
 use Rattle.gp_asset.proofs.buffers.read_buffers.Given as goal
 
 abbrev pub invariant-buffers : goal.invariant-buffers

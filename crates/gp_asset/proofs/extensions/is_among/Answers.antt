@@ -1,5 +1,5 @@
 use Rattle.std.proofs.Common.{refl, sym, ap, ◌∙◌, arith}
-use Rattle.gp_json.specs.Find.{is_named}
+use Rattle.gp_tree.specs.Find.{is_named}
 use Rattle.gp_asset.proofs.Names.{any_found, any_more, any_last}
 use Rattle.gp_asset.proofs.extensions.is_among.Goals as goal
 

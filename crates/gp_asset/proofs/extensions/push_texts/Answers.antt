@@ -1,7 +1,7 @@
 use Rattle.std.proofs.Common.{refl, sym, ap, ◌∙◌, map, filter_map, option_map, arith}
 use Rattle.std.proofs.lemmas.Grind.{common_steps}
-use Rattle.gp_json.specs.Plain.{plain}
-use Rattle.gp_json.proofs.Edited.{items_of}
+use Rattle.gp_tree.specs.Plain.{plain}
+use Rattle.gp_tree.proofs.Edited.{items_of}
 use Rattle.gp_fields.specs.Shapes.{a_text}
 use Rattle.gp_asset.proofs.Names.{kept_none, kept_some, kept_last}
 use Rattle.gp_asset.proofs.extensions.push_texts.Goals as goal

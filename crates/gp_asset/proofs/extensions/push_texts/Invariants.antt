@@ -1,5 +1,5 @@
 use Rattle.std.proofs.Common.{◌≡◌, ◌++◌, map, filter_map, drop}
-use Rattle.gp_json.specs.Plain.{plain}
+use Rattle.gp_tree.specs.Plain.{plain}
 use Rattle.gp_fields.specs.Shapes.{a_text}
 use Rattle.gp_asset.proofs.extensions.push_texts.Given as goal
 

@@ -1,10 +1,10 @@
 use Rattle.std.specs.Prelude.{option_map}
 use Rattle.std.proofs.Common.{List, ℕ, Option, Ok, Err, Vec, Global, Bor, map, subst}
-use Rattle.gp_json.specs.Plain.{PlainTree, plain}
-use Rattle.gp_json.specs.declared.lexeme.Lexeme.{Lexeme}
-use Rattle.gp_fields.specs.Record.{AssetFields}
-use Rattle.gp_asset.specs.declared.fault.Form.{Form}
-use Rattle.gp_asset.specs.Checks.{Checked, Answers, ◌>>=◌}
+use Rattle.gp_tree.specs.Plain.{PlainTree, plain}
+use Rattle.gp_tree.specs.declared.lexeme.Lexeme.{Lexeme}
+use Rattle.gp_fields.specs.Record.{◌>>=◌, AssetFields}
+use Rattle.gp_asset.specs.declared.purpose.Form.{Form}
+use Rattle.gp_rules.specs.Checks.{Checked, Answers}
 use Rattle.gp_asset.specs.Extensions.{extensions_in_use, supported}
 use Rattle.gp_asset.specs.Asset.{AssetParts, RuledParts, asset, by_rules, parts}
 use Rattle.gp_asset.proofs.Steps.{found, failed}

@@ -1,14 +1,15 @@
 use Rattle.std.proofs.Common.{◌≡◌, List, ℕ, Option, Ok, Err, Vec, Global, true, false, map, refl, sym, subst}
 use Rattle.gp_fields.specs.Fields.{BufferFields, ViewFields, AccessorFields}
-use Rattle.gp_asset.specs.declared.fault.AssetFault.TheVariants.{TooMuchData}
-use Rattle.gp_asset.specs.declared.fault.AssetRefusal.TheVariants.{Fault}
-use Rattle.gp_asset.specs.declared.storage.View.{View}
-use Rattle.gp_asset.specs.declared.accessing.Accessor.{Accessor}
+use Rattle.gp_rules.specs.declared.fault.AssetFault.TheVariants.{TooMuchData}
+use Rattle.gp_rules.specs.declared.fault.AssetRefusal.TheVariants.{Fault}
+use Rattle.gp_rules.specs.declared.storage.View.{View}
+use Rattle.gp_rules.specs.declared.accessing.Accessor.{Accessor}
 use Rattle.gp_asset.specs.declared.buffers.BufferBytes.{BufferBytes}
 use Rattle.gp_asset.specs.Stored.{bytes_in}
-use Rattle.gp_asset.specs.Checks.{Checked, Answers, ◌>>=◌, each, unless}
-use Rattle.gp_asset.specs.Views.{view_of}
-use Rattle.gp_asset.specs.Accessors.{accessor_of, is_too_much}
+use Rattle.gp_fields.specs.Record.{◌>>=◌}
+use Rattle.gp_rules.specs.Checks.{Checked, Answers, each, unless}
+use Rattle.gp_rules.specs.Views.{view_of}
+use Rattle.gp_rules.specs.Accessors.{accessor_of, is_too_much}
 use Rattle.gp_asset.specs.Asset.{RuledParts, by_rules}
 use Rattle.gp_asset.proofs.Steps.{found, failed, refused, passed_by}
 use Rattle.gp_asset.proofs.reading.read_by_rules.Goals as goal

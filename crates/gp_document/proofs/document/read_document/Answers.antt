@@ -1,4 +1,4 @@
-use Rattle.gp_json.specs.Plain.{plain}
+use Rattle.gp_tree.specs.Plain.{plain}
 use Rattle.gp_glb.specs.Parts.{parts}
 use Rattle.gp_document.proofs.Documents.{is_document}
 use Rattle.gp_document.proofs.document.read_document.Goals as goal

@@ -1,5 +1,5 @@
 use Rattle.std.proofs.Common.{◌^◌, nat_lt, length, ap, sym, ◌∙◌, option_map}
-use Rattle.gp_json.specs.Plain.{plain}
+use Rattle.gp_tree.specs.Plain.{plain}
 use Rattle.gp_glb.specs.Container.{glb, glb_len}
 use Rattle.gp_glb.proofs.Appending.{map_map}
 use Rattle.gp_document.proofs.Lengths.{too_large, is_output}

@@ -1,6 +1,6 @@
 use Rattle.std.proofs.Common.{◌≡◌, rules, true, codes, ◌∙◌}
-use Rattle.gp_json.specs.declared.tree.Tree.{Truth, the_lemmas}
-use Rattle.gp_json.specs.Plain.{plain, truth, members, no_members}
+use Rattle.gp_tree.specs.declared.tree.Tree.{Truth, the_lemmas}
+use Rattle.gp_tree.specs.Plain.{plain, truth, members, no_members}
 use Rattle.gp_edits.specs.Edits.{extension_name, sized_buffer}
 use Rattle.gp_edits.proofs.MadeValues.{one_more, fallback_made}
 use Rattle.gp_edits.proofs.buffers.fallback_buffer.Goals as goal

@@ -1,4 +1,4 @@
-use Rattle.gp_json.specs.Plain.{plain}
+use Rattle.gp_tree.specs.Plain.{plain}
 use Rattle.gp_edits.proofs.Empties.{none_found}
 use Rattle.gp_edits.proofs.Defaults.{some_found}
 use Rattle.gp_edits.proofs.Compressions.{first_extension, extension_set}

@@ -1,5 +1,5 @@
 use Rattle.std.proofs.Common.{codes, ap, ◌∙◌}
-use Rattle.gp_json.specs.Plain.{text, members, no_members}
+use Rattle.gp_tree.specs.Plain.{text, members, no_members}
 use Rattle.gp_edits.proofs.MadeValues.{one_more, compression_made}
 use Rattle.gp_edits.proofs.compression.compression_object.Goals as goal
 

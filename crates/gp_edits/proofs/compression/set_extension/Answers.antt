@@ -1,7 +1,7 @@
 use Rattle.std.proofs.Common.{codes, sym, ap, ◌∙◌}
-use Rattle.gp_json.specs.Plain.{plain}
-use Rattle.gp_json.specs.TreeEdits.{at_member, with_member}
-use Rattle.gp_json.proofs.Inner.{value_written}
+use Rattle.gp_tree.specs.Plain.{plain}
+use Rattle.gp_tree.specs.TreeEdits.{at_member, with_member}
+use Rattle.gp_tree.proofs.Inner.{value_written}
 use Rattle.gp_edits.specs.Edits.{extension_name}
 use Rattle.gp_edits.proofs.ViewsIn.{on_ok}
 use Rattle.gp_edits.proofs.compression.set_extension.Goals as goal

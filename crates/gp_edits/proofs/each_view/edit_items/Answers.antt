@@ -1,4 +1,4 @@
-use Rattle.gp_json.specs.Plain.{plain, plain_trees}
+use Rattle.gp_tree.specs.Plain.{plain, plain_trees}
 use Rattle.gp_edits.proofs.EachView.{item_there, within, below, one_more, all_changed, none_changed}
 use Rattle.gp_edits.proofs.each_view.edit_items.Goals as goal
 

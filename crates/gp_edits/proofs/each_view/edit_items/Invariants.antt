@@ -1,4 +1,4 @@
-use Rattle.gp_json.specs.Plain.{plain_trees}
+use Rattle.gp_tree.specs.Plain.{plain_trees}
 use Rattle.gp_edits.proofs.EachView.{AreChanged}
 use Rattle.gp_edits.proofs.each_view.edit_items.Given as goal
 

@@ -1,6 +1,6 @@
 use Rattle.std.proofs.Common.{sym, ap, ◌∙◌, codes}
-use Rattle.gp_json.specs.Plain.{plain}
-use Rattle.gp_json.specs.TreeEdits.{at_member, with_items}
+use Rattle.gp_tree.specs.Plain.{plain}
+use Rattle.gp_tree.specs.TreeEdits.{at_member, with_items}
 use Rattle.gp_edits.specs.Changes.{change_each, applied}
 use Rattle.gp_edits.proofs.ViewsIn.{on_ok, views_written, nothing_changed, no_list}
 use Rattle.gp_edits.proofs.each_view.edit_views.Goals as goal

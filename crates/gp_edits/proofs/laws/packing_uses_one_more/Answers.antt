@@ -1,4 +1,4 @@
-use Rattle.gp_json.specs.Find.{is_named}
+use Rattle.gp_tree.specs.Find.{is_named}
 use Rattle.gp_edits.specs.Edits.{with_two_buffers, with_extension_named}
 use Rattle.gp_edits.proofs.OneMore.{compressed_one, two_buffers_one, names_one, one_more}
 use Rattle.gp_edits.proofs.laws.packing_uses_one_more.Goals as goal

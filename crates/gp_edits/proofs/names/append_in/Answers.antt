@@ -1,7 +1,7 @@
 use Rattle.std.proofs.Common.{[], ◌∷◌, sym, ap, ◌∙◌}
-use Rattle.gp_json.specs.Plain.{plain}
-use Rattle.gp_json.specs.TreeEdits.{at_member, and_items}
-use Rattle.gp_json.proofs.Inner.{value_written}
+use Rattle.gp_tree.specs.Plain.{plain}
+use Rattle.gp_tree.specs.TreeEdits.{at_member, and_items}
+use Rattle.gp_tree.proofs.Inner.{value_written}
 use Rattle.gp_edits.proofs.ViewsIn.{on_ok}
 use Rattle.gp_edits.proofs.names.append_in.Goals as goal
 

@@ -1,6 +1,6 @@
 use Rattle.std.proofs.Common.{ap, ◌∙◌, not, rules}
 use Rattle.std.proofs.lemmas.Fn.{filter_same}
-use Rattle.gp_json.specs.Plain.{plain, plain_trees}
+use Rattle.gp_tree.specs.Plain.{plain, plain_trees}
 use Rattle.gp_edits.specs.Changes.{is_text_named}
 use Rattle.gp_edits.specs.Edits.{extension_name}
 use Rattle.gp_edits.proofs.Texts.{kept}

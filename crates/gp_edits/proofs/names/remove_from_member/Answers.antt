@@ -1,7 +1,7 @@
 use Rattle.std.proofs.Common.{sym, ap, ◌∙◌}
-use Rattle.gp_json.specs.Plain.{plain}
-use Rattle.gp_json.specs.TreeEdits.{at_member}
-use Rattle.gp_json.proofs.Inner.{value_written}
+use Rattle.gp_tree.specs.Plain.{plain}
+use Rattle.gp_tree.specs.TreeEdits.{at_member}
+use Rattle.gp_tree.proofs.Inner.{value_written}
 use Rattle.gp_edits.specs.Changes.{without_text}
 use Rattle.gp_edits.specs.Edits.{extension_name}
 use Rattle.gp_edits.proofs.names.remove_from_member.Goals as goal

@@ -1,6 +1,6 @@
 use Rattle.gp_edits.proofs.EmptiedMembers.{emptied_none, emptied_after}
 use Rattle.gp_edits.proofs.Empties.{none_found}
-use Rattle.gp_json.specs.Plain.{plain}
+use Rattle.gp_tree.specs.Plain.{plain}
 use Rattle.gp_edits.specs.Changes.{without_text}
 use Rattle.gp_edits.specs.Edits.{extension_name}
 use Rattle.gp_edits.proofs.names.remove_name_in.Goals as goal

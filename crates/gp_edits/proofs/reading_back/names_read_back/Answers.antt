@@ -1,4 +1,4 @@
-use Rattle.gp_json.proofs.Kept.{find_removed}
+use Rattle.gp_tree.proofs.Kept.{find_removed}
 use Rattle.std.specs.Prelude.{codes}
 use Rattle.gp_edits.proofs.NamesBack.{used_again, required_again, named_other}
 use Rattle.gp_edits.proofs.reading_back.names_read_back.Goals as goal

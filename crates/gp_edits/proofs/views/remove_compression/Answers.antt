@@ -1,6 +1,6 @@
 use Rattle.gp_edits.proofs.EmptiedMembers.{no_compression, compression_removed}
 use Rattle.gp_edits.proofs.Empties.{none_found}
-use Rattle.gp_json.specs.Plain.{plain}
+use Rattle.gp_tree.specs.Plain.{plain}
 use Rattle.gp_edits.proofs.views.remove_compression.Goals as goal
 
 pub returns-then-is_none : goal.returns-then-is_none

@@ -1,5 +1,5 @@
 use Rattle.std.proofs.Common.{rules, ◌+◌, Some, map, drop, sym, ap, ◌∙◌, arith}
-use Rattle.gp_json.specs.Plain.{plain_member}
+use Rattle.gp_tree.specs.Plain.{plain_member}
 use Rattle.gp_fields.specs.Fields.{entry_of, entries_of}
 use Rattle.gp_fields.proofs.Each.{behind}
 use Rattle.gp_fields.proofs.EachEntry.{begin, next, stop, last}

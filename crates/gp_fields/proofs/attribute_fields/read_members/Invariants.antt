@@ -1,5 +1,5 @@
 use Rattle.std.proofs.Common.{◌≡◌, map, drop}
-use Rattle.gp_json.specs.Plain.{plain_member, plain_entries, members}
+use Rattle.gp_tree.specs.Plain.{plain_member, plain_entries, members}
 use Rattle.gp_fields.specs.Fields.{entries_of, entries_fields}
 use Rattle.gp_fields.proofs.Each.{behind}
 use Rattle.gp_fields.proofs.attribute_fields.read_members.Given as goal

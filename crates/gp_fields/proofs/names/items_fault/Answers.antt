@@ -1,6 +1,6 @@
 use Rattle.std.proofs.Common.{◌+◌, [], map, drop, sym, ap, ◌∙◌, arith}
 use Rattle.std.specs.Prelude.{option_map}
-use Rattle.gp_json.specs.Plain.{plain}
+use Rattle.gp_tree.specs.Plain.{plain}
 use Rattle.gp_fields.specs.Shapes.{a_text}
 use Rattle.gp_fields.specs.Record.{fault_of}
 use Rattle.gp_fields.proofs.Items.{begin, next, stop, last, forget}

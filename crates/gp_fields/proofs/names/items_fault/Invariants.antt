@@ -1,5 +1,5 @@
 use Rattle.std.proofs.Common.{◌≡◌, [], map, drop}
-use Rattle.gp_json.specs.Plain.{plain, plain_items, list}
+use Rattle.gp_tree.specs.Plain.{plain, plain_items, list}
 use Rattle.gp_fields.specs.Shapes.{a_text}
 use Rattle.gp_fields.specs.Record.{items_of_shape, fault_of}
 use Rattle.gp_fields.proofs.Items.{from}

@@ -1,8 +1,8 @@
 use Rattle.std.proofs.Common.{◌≡◌, sym, ap, ◌∙◌, subst}
-use Rattle.gp_json.specs.declared.tree.Tree.{Members as an_object}
-use Rattle.gp_json.specs.declared.tree.Members.{Members}
-use Rattle.gp_json.specs.Plain.{plain}
-use Rattle.gp_json.proofs.Firsts.{object_is}
+use Rattle.gp_tree.specs.declared.tree.Tree.{Members as an_object}
+use Rattle.gp_tree.specs.declared.tree.Members.{Members}
+use Rattle.gp_tree.specs.Plain.{plain}
+use Rattle.gp_tree.proofs.Firsts.{object_is}
 use Rattle.gp_fields.specs.Record.{Answers, asset_fields}
 use Rattle.gp_fields.specs.Left.{names_on}
 use Rattle.gp_fields.proofs.whole.read_fields.Goals as goal

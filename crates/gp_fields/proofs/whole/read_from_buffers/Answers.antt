@@ -1,6 +1,6 @@
 use Rattle.std.proofs.Common.{◌≡◌, Err, length, arith}
 use Rattle.std.proofs.lemmas.Result.{err_from_is_err_and}
-use Rattle.gp_json.specs.Plain.{plain}
+use Rattle.gp_tree.specs.Plain.{plain}
 use Rattle.gp_fields.specs.Left.{meshes_on}
 use Rattle.gp_fields.proofs.Steps.{views, accessors, views_on, accessors_on, found, counted, failed}
 use Rattle.gp_fields.proofs.whole.read_from_buffers.Goals as goal

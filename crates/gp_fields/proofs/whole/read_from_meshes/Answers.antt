@@ -2,7 +2,7 @@ use Rattle.std.proofs.Common.{◌≡◌, Result, Ok, Err, length, refl, arith}
 use Rattle.gp_fields.specs.declared.fault.FieldRefusal.{FieldRefusal}
 use Rattle.gp_fields.specs.Record.{AssetFields}
 use Rattle.std.proofs.lemmas.Result.{err_from_is_err_and}
-use Rattle.gp_json.specs.Plain.{plain}
+use Rattle.gp_tree.specs.Plain.{plain}
 use Rattle.gp_fields.proofs.Steps.{meshes, skins, animations, images, skins_on, animations_on, images_on, counted, failed}
 use Rattle.gp_fields.proofs.whole.read_from_meshes.Goals as goal
 

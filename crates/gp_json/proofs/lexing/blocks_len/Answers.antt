@@ -1,5 +1,5 @@
 use Rattle.std.proofs.Common.{arith}
-use Rattle.gp_json.specs.Lexical.{IsUnescaped}
+use Rattle.gp_tree.specs.Lexical.{IsUnescaped}
 use Rattle.gp_json.proofs.Runs.{runs_more}
 use Rattle.gp_json.proofs.lexing.blocks_len.Goals as goal
 

@@ -1,5 +1,5 @@
 use Rattle.std.proofs.Common.{◌≤◌, ◌-◌, length, take}
-use Rattle.gp_json.specs.Lexical.{Each, IsUnescaped}
+use Rattle.gp_tree.specs.Lexical.{Each, IsUnescaped}
 use Rattle.gp_json.proofs.lexing.blocks_len.Given as goal
 
 abbrev pub invariant-tests : goal.invariant-tests

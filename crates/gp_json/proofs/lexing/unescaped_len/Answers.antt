@@ -1,5 +1,5 @@
 use Rattle.std.proofs.Common.{◌≡◌, take, subst, length-drop, arith}
-use Rattle.gp_json.specs.Lexical.{Each, IsUnescaped}
+use Rattle.gp_tree.specs.Lexical.{Each, IsUnescaped}
 use Rattle.gp_json.proofs.Runs.{runs_more}
 use Rattle.gp_json.proofs.Strings.{rest_is}
 use Rattle.gp_json.proofs.lexing.unescaped_len.Goals as goal

@@ -1,6 +1,6 @@
 use Rattle.std.proofs.Common.{◌≡◌, sym, subst, arith}
 use Rattle.std.proofs.lemmas.Grind.{common_steps}
-use Rattle.gp_json.specs.Plain.{plain}
+use Rattle.gp_tree.specs.Plain.{plain}
 use Rattle.gp_json.specs.Text.{text_of}
 use Rattle.gp_json.specs.Spelling.{Spells}
 use Rattle.gp_json.proofs.Compact.{compact_spells}

@@ -1,13 +1,13 @@
 use Rattle.std.proofs.Common.{◌≡◌, ℕ, ◌-◌, List, [], ◌∷◌, ◌++◌, refl, sym, ap, ◌∙◌, subst, arith, rules, Err}
 use Rattle.std.proofs.lemmas.Grind.{common_steps}
 use Rattle.gp_json.specs.declared.fault.JsonFault.TheVariants.{NotJson}
-use Rattle.gp_json.specs.Plain.{plain, plain_items, plain_entries, plain_member, list, members}
+use Rattle.gp_tree.specs.Plain.{plain, plain_items, plain_entries, plain_member, list, members}
 use Rattle.gp_json.specs.Deep.{IsDeep}
 use Rattle.gp_json.specs.Reading.{BeginsItems, BeginsMembers, BeginsMember, BeginsValue, HasNone}
-use Rattle.gp_json.specs.declared.tree.Tree.{List as a_list, Members as an_object, the_lemmas}
-use Rattle.gp_json.specs.declared.tree.Trees.{roll-Trees}
-use Rattle.gp_json.specs.declared.tree.Members.{roll-Members}
-use Rattle.gp_json.specs.declared.tree.Member.{roll-Member}
+use Rattle.gp_tree.specs.declared.tree.Tree.{List as a_list, Members as an_object, the_lemmas}
+use Rattle.gp_tree.specs.declared.tree.Trees.{roll-Trees}
+use Rattle.gp_tree.specs.declared.tree.Members.{roll-Members}
+use Rattle.gp_tree.specs.declared.tree.Member.{roll-Member}
 use Rattle.gp_json.proofs.ItemTurns.{Turn, first_turn, next_turn, last_turn, flat_turn, flat_empty, failed_turn, failed_value, refused_value, list_good, list_none, flat_list, refused_list}
 use Rattle.gp_json.proofs.MemberTurns as turns
 use Rattle.std.proofs.lemmas.Result.{err_from_is_err_and}

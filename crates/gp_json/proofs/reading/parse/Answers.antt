@@ -1,7 +1,7 @@
 use Rattle.std.proofs.Common.{◌≡◌, Bool, true, false, refl, ap, subst, Err}
 use Rattle.gp_json.specs.declared.fault.JsonFault.TheVariants.{NotJson}
 use Rattle.gp_json.specs.declared.fault.JsonRefusal.TheVariants.{Fault}
-use Rattle.gp_json.specs.Plain.{plain}
+use Rattle.gp_tree.specs.Plain.{plain}
 use Rattle.gp_json.proofs.ItemTurns.{Skips}
 use Rattle.gp_json.proofs.Texts.{text_spelled, text_none, text_goes_on}
 use Rattle.gp_json.proofs.Unique.{spells_unique}

@@ -3,9 +3,9 @@ use Rattle.gp_json.specs.declared.fault.JsonFault.{JsonFault}
 use Rattle.gp_json.specs.declared.fault.JsonFault.TheVariants.{NotUtf8, TooDeep, NotJson, DuplicateKey}
 use Rattle.gp_json.specs.declared.fault.JsonRefusal.{JsonRefusal}
 use Rattle.gp_json.specs.declared.fault.JsonRefusal.TheVariants.{Fault, Memory}
-use Rattle.gp_json.specs.Plain.{PlainTree, plain}
+use Rattle.gp_tree.specs.Plain.{PlainTree, plain}
 use Rattle.gp_json.specs.Spelling.{Spells}
-use Rattle.gp_json.specs.Sound.{HasDistinctKeys}
+use Rattle.gp_tree.specs.Sound.{HasDistinctKeys}
 use Rattle.gp_json.specs.Fault.{IsTooDeep, HasFault}
 use Rattle.gp_json.proofs.Refusals.{fault_unique, told}
 use Rattle.gp_json.proofs.Spelled.{spelled}

@@ -1,7 +1,7 @@
 use Rattle.std.proofs.Common.{◌≡◌, true, false, refl, sym, ◌∙◌, subst, rules}
-use Rattle.gp_json.specs.Plain.{plain, null, truth, text}
+use Rattle.gp_tree.specs.Plain.{plain, null, truth, text}
 use Rattle.gp_json.specs.Reading.{BeginsValue}
-use Rattle.gp_json.specs.declared.tree.Tree.{Null, Truth, Text, the_lemmas}
+use Rattle.gp_tree.specs.declared.tree.Tree.{Null, Truth, Text, the_lemmas}
 use Rattle.gp_json.proofs.Leaves.{null_good, true_good, false_good, text_good}
 use Rattle.gp_json.proofs.reading.read_leaf.Goals as goal
 

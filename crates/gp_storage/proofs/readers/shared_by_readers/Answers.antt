@@ -1,7 +1,7 @@
 use Rattle.std.proofs.Common.{ap, ◌∙◌, sym, get_or, length, arith, List, None}
-use Rattle.gp_asset.specs.declared.accessing.Accessor.{Accessor}
-use Rattle.gp_asset.specs.declared.accessing.Component.TheVariants.{I8}
-use Rattle.gp_asset.specs.declared.accessing.Shape.TheVariants.{Scalar}
+use Rattle.gp_rules.specs.declared.accessing.Accessor.{Accessor}
+use Rattle.gp_rules.specs.declared.accessing.Component.TheVariants.{I8}
+use Rattle.gp_rules.specs.declared.accessing.Shape.TheVariants.{Scalar}
 use Rattle.gp_storage.specs.Readers.{is_index_list}
 use Rattle.gp_storage.specs.Shared.{with_reader, usage_in}
 use Rattle.gp_storage.proofs.ReadersSoFar.{none, one_more, none_more, list_at}

@@ -1,5 +1,5 @@
 use Rattle.std.proofs.Common.{arith, ap, ◌∙◌, None}
-use Rattle.gp_asset.specs.declared.storage.View.{View}
+use Rattle.gp_rules.specs.declared.storage.View.{View}
 use Rattle.gp_storage.specs.Readers.{has_image, readers}
 use Rattle.gp_storage.specs.Shared.{shared_by}
 use Rattle.gp_storage.proofs.Tables.{item_at, in_items}

@@ -1,10 +1,10 @@
 use Rattle.std.proofs.Common.{ap, length}
 use Rattle.gp_document.specs.Reading.{document_of}
-use Rattle.gp_unpack.proofs.Finishing.{not_built, made, faulty}
+use Rattle.gp_unpack.proofs.Finishing.{refused, made, faulty}
 use Rattle.gp_unpack.proofs.unpacking.unpack_accepted.Goals as goal
 
 pub returns-then-has_unbuilt : goal.returns-then-has_unbuilt
-returns-then-has_unbuilt c = not_built (document_of c.args.accepted.document) c.args.accepted.asset c.has_unbuilt.result c.has_unbuilt.ensures c.if-has_unbuilt.true
+returns-then-has_unbuilt c = refused (document_of c.args.accepted.document) c.args.accepted.asset c.has_unbuilt.result c.has_unbuilt.ensures c.if-has_unbuilt.true
 
 pub returns-in-Ok : goal.returns-in-Ok
 returns-in-Ok c =

@@ -1,8 +1,0 @@
-use Rattle.std.proofs.Common.{◌≡◌, drop}
-use Rattle.gp_asset.specs.Checks.{each}
-use Rattle.gp_asset.specs.Accessors.{accessor_of}
-use Rattle.gp_asset.proofs.Each.{behind}
-use Rattle.gp_asset.proofs.accessors.read_accessors.Given as goal
-
-abbrev pub invariant-accessors : goal.invariant-accessors
-invariant-accessors l = each (accessor_of l.views) 0 l.accessors ≡ behind l.read.items (each (accessor_of l.views) l.at (drop l.at l.accessors))

@@ -1,6 +1,0 @@
-use Rattle.std.proofs.Common.{rules}
-use Rattle.gp_asset.proofs.Filters.{none_is_filter}
-use Rattle.gp_asset.proofs.packed.is_filter.Goals as goal
-
-pub returns-in-None : goal.returns-in-None
-returns-in-None c = none_is_filter c.args.packed.now.filter (search rules)

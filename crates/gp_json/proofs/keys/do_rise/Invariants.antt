@@ -1,5 +1,0 @@
-use Rattle.gp_json.specs.EqualKeys.{DoRise}
-use Rattle.gp_json.proofs.keys.do_rise.Given as goal
-
-abbrev pub invariant-loop-at : goal.invariant-loop-at
-invariant-loop-at l = DoRise l.at l.numbers

@@ -1,5 +1,0 @@
-use Rattle.gp_json.proofs.Parts.{value_sound, item_sound}
-use Rattle.gp_json.proofs.laws.parts_are_sound.Goals as goal
-
-pub returns : goal.returns
-returns c = record { values = value_sound; items = item_sound }

@@ -1,0 +1,4 @@
+pub mod Each
+pub mod Filters
+pub mod Within
+mod Worked

@@ -1,0 +1,15 @@
+pub mod Plain
+pub mod Lexical
+pub mod Key
+pub mod Sound
+pub mod Look
+pub mod Find
+pub mod Anywhere
+pub mod Values
+pub mod TreeEdits
+pub mod Lending
+pub mod Laws
+pub mod First
+pub mod EqualKeys
+pub mod Units
+pub mod Examples
