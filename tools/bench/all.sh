@@ -1,0 +1,17 @@
+#!/usr/bin/env bash
+# Every measurement of docs/BENCHMARKS.md but that of the gate, in one run, on one machine: a heading and a table each.
+set -eu
+tools=$(cd "$(dirname "$0")/.." && pwd)
+
+"$tools/../glbpack" >/dev/null 2>&1 || true # builds it where it is missing
+grep -m 1 'model name' /proc/cpuinfo || true
+uptime
+printf '\n## Reading and printing JSON\n\n'
+python3 "$tools/bench_texts.py"
+printf '\n## Reading assets\n\n'
+python3 "$tools/bench_assets.py"
+printf '\n## Packing and unpacking buffer views\n\n'
+python3 "$tools/bench_views.py"
+printf '\n## The coders of streams\n\n'
+bash "$tools/bench/run.sh"
+uptime
