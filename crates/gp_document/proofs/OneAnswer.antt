@@ -25,6 +25,7 @@ use Rattle.gp_document.specs.Faults.{HasFault, IsHindered, IsTooLarge}
 use Rattle.gp_document.specs.Answers.{IsMade}
 use Rattle.gp_document.specs.Laws.{HaveOneAnswer, DocumentsAreSound}
 use Rattle.gp_document.specs.declared.output.Output.{Output}
+use Rattle.gp_document.proofs.Documents.{no_glb_fault}
 
 -- bytes hold one document
 pub document_one : (bytes : List ℕ) (d e : Document) → Holds bytes d → Holds bytes e → d ≡ e
@@ -35,9 +36,6 @@ document_one bytes d e h g =
     let bin : d.bin ≡ e.bin = ap (λ c. c.bin) same in
     let rest : d.rest ≡ e.rest = ap (λ c. c.rest) same in
     λ i. record { tree = tree i; bin = bin i; rest = rest i }
-
-no_glb_fault : (bytes : List ℕ) (parts : Container) (fault : GlbFault) → Reads bytes (Ok parts) → IsGlbFault bytes fault → ⊥
-no_glb_fault bytes parts fault reads broken = let e : ◌≡◌ {A = Result Container GlbFault} (Ok parts) (Err fault) = reads_one bytes (Ok parts) (Err fault) reads broken in cc
 
 no_json_fault : (bytes : List ℕ) (d : Document) (parts : Container) (fault : JsonFault) → Holds bytes d → StandsFor bytes parts → HasJsonFault parts.json fault → ⊥
 no_json_fault bytes d parts fault h stands broken =

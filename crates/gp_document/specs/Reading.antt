@@ -1,9 +1,10 @@
 -- What is kept of a file that is read.
-use Rattle.std.specs.Prelude.{◌≡◌, ◌⊎◌, ℕ, ◌<◌, ◌^◌, List, length, Ok, option_map}
+use Rattle.std.specs.Prelude.{◌≡◌, ◌⊎◌, ℕ, ◌<◌, ◌^◌, List, length, Result, Ok, Err, option_map}
 use Rattle.gp_tree.specs.Plain.{plain}
 use Rattle.gp_json.specs.Fault.{HasFault as HasJsonFault}
 use Rattle.gp_glb.specs.Container.{Container, AreWholeChunks}
 use Rattle.gp_glb.specs.Faults.{IsFirstFault as IsGlbFault, Reads}
+use Rattle.gp_glb.specs.declared.fault.GlbFault.{GlbFault}
 use Rattle.gp_asset.specs.declared.purpose.Form.{Form}
 use Rattle.gp_asset.specs.declared.refusal.Refusal.{Refusal}
 use Rattle.gp_asset.specs.declared.refusal.Refusal.TheVariants.{Glb, Json, Asset, Memory}
@@ -24,6 +25,10 @@ pub record IsAcceptedAs (form : Form) (bytes : List ℕ) (accepted : Accepted) :
   pub is_asset : asset_of form (document_of accepted.document) ≡ Ok accepted.asset
   pub whole : AreWholeChunks accepted.document.rest.now
   pub few : length accepted.asset.views < 2 ^ 32
+
+-- a fault of the container is told, however little memory there is
+abbrev pub TellsContainerFault : {A : Type 0} → List ℕ → Result A Refusal → Type 0
+TellsContainerFault bytes result = (fault : GlbFault) → IsGlbFault bytes fault → result ≡ Err (Glb fault)
 
 -- the container has the fault; else its JSON has it
 abbrev pub HasTextFault : List ℕ → Refusal → Type 0

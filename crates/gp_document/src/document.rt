@@ -1,6 +1,6 @@
 // What a file holds.
 ghost use Rattle.std.specs.Prelude.{IfOk, IfErr};
-ghost use Rattle.gp_document.specs.Reading.{HoldsDocument, IsTextFaultOrMemory};
+ghost use Rattle.gp_document.specs.Reading.{HoldsDocument, IsTextFaultOrMemory, TellsContainerFault};
 
 use gp_asset::Refusal;
 use gp_glb::split;
@@ -19,10 +19,12 @@ pub struct Document<'a> {
     pub rest: &'a [u8],
 }
 
-/// Reads a GLB or a glTF text, or tells the fault of its container or of its JSON. Want of memory is the one other answer.
+/// Reads a GLB or a glTF text, or tells the fault of its container or of its JSON. Want of memory is the one other answer,
+/// and never where the container has a fault.
 pub fn read_document(alloc: Global, bytes: &[u8]) -> Result<Document<'_>, Refusal>
     ensures holds { IfOk result (HoldsDocument bytes.now) }
     ensures refused { IfErr result (IsTextFaultOrMemory bytes.now) }
+    ensures told { TellsContainerFault bytes.now result }
 {
     let chunks = split(bytes)?;
     let tree = read(alloc, chunks.json)?;

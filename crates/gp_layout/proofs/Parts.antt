@@ -49,6 +49,10 @@ pub starts_push : (at : ℕ) (parts : List (List ℕ)) (part : List ℕ)
 starts_push at [] part = refl
 starts_push at (first ∷ parts) part = ap (λ l. padded at ∷ l) (starts_push (padded at + length first) parts part)
 
+pub end_push : (at : ℕ) (parts : List (List ℕ)) (part : List ℕ) → end_behind at (map length (parts ++ part ∷ [])) ≡ padded (end_behind at (map length parts)) + length part
+end_push at [] part = refl
+end_push at (first ∷ parts) part = end_push (padded at + length first) parts part
+
 -- ---- where a part is found
 
 -- the bytes before a part, and those behind it

@@ -7,8 +7,8 @@ use Rattle.std.specs.Option.{option_and_then}
 use Rattle.gp_asset.specs.Contents.{bytes_at}
 use Rattle.gp_rules.specs.Sizes.{padded}
 use Rattle.gp_layout.specs.Layout.{starts, end, laid}
-use Rattle.gp_layout.specs.Row.{RowParts, row_of, zero_padded, with_part, HasEach, held}
-use Rattle.gp_layout.proofs.Parts.{length_laid, laid_push, starts_push}
+use Rattle.gp_layout.specs.Row.{RowParts, row_of, zero_padded, with_part, HasEach, held, row_length}
+use Rattle.gp_layout.proofs.Parts.{length_laid, laid_push, starts_push, end_push}
 
 bytes_push : (parts : List (List ℕ)) (part : List ℕ) → laid (parts ++ part ∷ []) ≡ zero_padded (laid parts) ++ part
 bytes_push parts part =
@@ -38,6 +38,14 @@ pub held_more : (views : List (Option (List ℕ))) (k : ℕ) (part : List ℕ) �
 held_more [] k part e = absurd (cc)
 held_more (v ∷ views) zero part e = let f : v ≡ Some part = e in rw f refl
 held_more (v ∷ views) (suc k) part e = let n : suc k + 1 ≡ suc (k + 1) = omega arith in rw n (none_more v views k part (held_more views k part e))
+
+-- ---- the turns of `room`
+
+pub length_more : (views : List (Option (List ℕ))) (k : ℕ) (part : List ℕ) → bytes_at views k ≡ Some part → row_length (take (k + 1) views) ≡ padded (row_length (take k views)) + length part
+length_more views k part e = ap (λ parts. end (map length parts)) (held_more views k part e) ∙ end_push 0 (held (take k views)) part
+
+pub length_all : (views : List (Option (List ℕ))) (number k : ℕ) → HasEach views number → number ≤ k → row_length (take k views) ≡ row_length views
+length_all views number k h past = ap row_length (take_all k views (omega (arith, h.count, past)))
 
 -- ---- the turns of `lay`
 

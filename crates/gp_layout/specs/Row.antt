@@ -37,3 +37,7 @@ pub record HasEach (views : List (Option (List ℕ))) (number : ℕ) : Type 0 wh
 -- the bytes of those views that have some
 abbrev pub held : List (Option (List ℕ)) → List (List ℕ)
 held views = filter_map (λ view. view) views
+
+-- how long the row of those views is
+abbrev pub row_length : List (Option (List ℕ)) → ℕ
+row_length views = end (map length (held views))

@@ -1,6 +1,6 @@
 // Parts in a row.
-ghost use Rattle.std.specs.Prelude.{◌≡◌, ℕ, List, option_map, IfOk, OnOk};
-ghost use Rattle.gp_layout.specs.Row.{row_of, laid_buffer, buffer_length, with_part, zero_padded, HasEach, held};
+ghost use Rattle.std.specs.Prelude.{◌≡◌, ◌<◌, ◌^◌, ℕ, List, option_map, IfOk, OnOk};
+ghost use Rattle.gp_layout.specs.Row.{row_of, laid_buffer, buffer_length, with_part, zero_padded, HasEach, held, row_length};
 
 use gp_asset::ViewBytes;
 use gp_host::NoMemory;
@@ -37,9 +37,10 @@ pub fn lay<V: ViewBytes>(alloc: Global, views: &V, count: usize) -> Result<Row, 
     Ok(row)
 }
 
-// How many bytes the row of these views has, where it has less than the greatest number.
+// How many bytes the row of these views has, where a number can say it.
 fn room<V: ViewBytes>(views: &V, count: usize) -> usize
     requires { HasEach (V.views views.now) count }
+    ensures { row_length (V.views views.now) < 2 ^ 64 → result ≡ row_length (V.views views.now) }
 {
     let mut room: usize = 0;
     'lengths: for at in 0..count {
