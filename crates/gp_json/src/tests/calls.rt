@@ -6,7 +6,7 @@ use std::test::Fail;
 
 #[test]
 fn takes_a_whole_number(rt: HostRuntime) -> Result<(), Fail> {
-    let cases = [
+    const ROWS: &[(&str, Option<u32>)] = &[
         ("0", Some(0)),
         ("7", Some(7)),
         ("4294967295", Some(4_294_967_295)),
@@ -21,7 +21,7 @@ fn takes_a_whole_number(rt: HostRuntime) -> Result<(), Fail> {
         ("[1]", None),
         ("null", None),
     ];
-    for (text, value) in cases {
+    for &(text, value) in ROWS {
         let tree = read(rt.alloc(), text.as_bytes())?;
         assert_eq!(rt; tree.whole(), value, "{text}");
     }
@@ -30,7 +30,7 @@ fn takes_a_whole_number(rt: HostRuntime) -> Result<(), Fail> {
 
 #[test]
 fn takes_ascii(rt: HostRuntime) -> Result<(), Fail> {
-    let cases: [(&str, Option<&[u8]>); 9] = [
+    const ROWS: &[(&str, Option<&[u8]>)] = &[
         ("\"\"", Some(b"")),
         ("\"ab c\"", Some(b"ab c")),
         ("\"\\u0041\\n\\/\\\\\\\"\\u007f\"", Some(b"A\n/\\\"\x7F")),
@@ -41,7 +41,7 @@ fn takes_ascii(rt: HostRuntime) -> Result<(), Fail> {
         ("7", None),
         ("[\"a\"]", None),
     ];
-    for (text, expected) in cases {
+    for &(text, expected) in ROWS {
         let tree = read(rt.alloc(), text.as_bytes())?;
         let bytes = tree.ascii(rt.alloc())?;
         let found = bytes.as_ref().map(|bytes| bytes.as_slice());
@@ -56,7 +56,7 @@ fn lexeme(alloc: Global, spelling: &str) -> Result<Lexeme, Fail> {
 
 #[test]
 fn compares_keys_by_their_units(rt: HostRuntime) -> Result<(), Fail> {
-    let cases = [
+    const ROWS: &[(&str, &str, bool)] = &[
         ("a", "\\u0061", true),
         ("\u{1D11E}", "\\uD834\\uDD1E", true),
         ("\u{1D11E}", "\\uD834", false),
@@ -68,26 +68,38 @@ fn compares_keys_by_their_units(rt: HostRuntime) -> Result<(), Fail> {
         ("a", "ab", false),
         ("\\u0061", "u0061", false),
     ];
-    for (left, right, equal) in cases {
+    for &(left, right, equal) in ROWS {
         let a = lexeme(rt.alloc(), left)?;
         let b = lexeme(rt.alloc(), right)?;
         assert_eq!(rt; same_key(&a, &b), equal, "{left} {right}");
         assert_eq!(rt; same_key(&b, &a), equal, "{right} {left}");
     }
+    Ok(())
+}
+
+#[test]
+fn compares_a_key_with_a_name(rt: HostRuntime) -> Result<(), Fail> {
     let name = lexeme(rt.alloc(), "\\u006Ea\\u006De")?;
     assert!(rt; key_is(&name, "name") && !key_is(&name, "names") && !key_is(&name, "nam"));
     Ok(())
 }
 
+const MEMBERS: &[u8] = b"{\"a\":[5,[],{}],\"\\u0062\":6,\"c\":{\"a\":7}}";
+
 #[test]
-fn finds_members_and_items(rt: HostRuntime) -> Result<(), Fail> {
-    let text = b"{\"a\":[5,[],{}],\"\\u0062\":6,\"c\":{\"a\":7}}";
-    let tree = read(rt.alloc(), text)?;
+fn finds_members(rt: HostRuntime) -> Result<(), Fail> {
+    let tree = read(rt.alloc(), MEMBERS)?;
     assert_eq!(rt; tree.find("b").and_then(Tree::whole), Some(6));
     assert!(rt; tree.find("d").is_none() && tree.item(0).is_none());
     assert_eq!(rt; tree.len(), 0);
     let inner = tree.find("c").and_then(|object| object.find("a"));
     assert_eq!(rt; inner.and_then(Tree::whole), Some(7));
+    Ok(())
+}
+
+#[test]
+fn finds_items(rt: HostRuntime) -> Result<(), Fail> {
+    let tree = read(rt.alloc(), MEMBERS)?;
     let Some(list) = tree.find("a") else {
         return Ok(assert!(rt; false));
     };
@@ -98,44 +110,61 @@ fn finds_members_and_items(rt: HostRuntime) -> Result<(), Fail> {
 }
 
 // Objects in each other, keys spelled with an escape, and members so named that hold no object.
+const NAMED: &[u8] = b"{\"extensions\":{\"A\":{\"extensions\":{\"B\":1}},\"\\u0043\":[]},\
+    \"extras\":{\"\\u0065xtensions\":{\"D\":null,\"E\":{\"F\":2}}},\
+    \"list\":[{\"extensions\":[{\"G\":3}]},{\"extensions\":null},{\"extensions\":{}},\
+    {\"extensions\":{\"extensions\":{\"H\":4}}}],\"extension\":{\"I\":5}}";
+
+// The keys under a name, each with a space behind it.
+fn keys_text(alloc: Global, tree: &Tree, name: &str) -> Result<Vec<u8>, Fail> {
+    let mut found = Vec::new(alloc);
+    for key in tree.keys_under(alloc, name)? {
+        found.extend_from_slice(key.as_slice())?;
+        found.push(b' ')?;
+    }
+    Ok(found)
+}
+
 #[test]
 fn lists_the_keys_under_a_name(rt: HostRuntime) -> Result<(), Fail> {
-    let alloc = rt.alloc();
-    let text = b"{\"extensions\":{\"A\":{\"extensions\":{\"B\":1}},\"\\u0043\":[]},\
-        \"extras\":{\"\\u0065xtensions\":{\"D\":null,\"E\":{\"F\":2}}},\
-        \"list\":[{\"extensions\":[{\"G\":3}]},{\"extensions\":null},{\"extensions\":{}},\
-        {\"extensions\":{\"extensions\":{\"H\":4}}}],\"extension\":{\"I\":5}}";
-    let tree = read(alloc, text)?;
-    let cases = [
+    const ROWS: &[(&str, &str)] = &[
         ("extensions", "A \\u0043 B D E extensions H "),
         ("extras", "\\u0065xtensions "),
         ("extension", "I "),
         ("list", ""),
         ("absent", ""),
     ];
-    for (name, expected) in cases {
-        let mut found = Vec::new(alloc);
-        for key in tree.keys_under(alloc, name)? {
-            found.extend_from_slice(key.as_slice())?;
-            found.push(b' ')?;
-        }
+    let tree = read(rt.alloc(), NAMED)?;
+    for &(name, expected) in ROWS {
+        let found = keys_text(rt.alloc(), &tree, name)?;
         assert_eq!(rt; found.as_slice(), expected.as_bytes(), "{name}");
     }
     Ok(())
 }
 
 #[test]
-fn makes_lists_objects_and_lexemes_of_vectors(rt: HostRuntime) -> Result<(), Fail> {
-    let alloc = rt.alloc();
-    let bytes = lexeme(alloc, "\\n")?;
-    assert_eq!(rt; bytes.as_slice(), b"\\n".as_slice());
-    let long = lexeme(alloc, "sixteen bytes and more")?;
-    assert_eq!(rt; long.as_slice(), b"sixteen bytes and more".as_slice());
-    let mut items = Vec::new(alloc);
+fn makes_lexemes_of_bytes(rt: HostRuntime) -> Result<(), Fail> {
+    const SPELLINGS: &[&str] = &["\\n", "sixteen bytes and more"];
+    for &spelling in SPELLINGS {
+        let bytes = lexeme(rt.alloc(), spelling)?;
+        assert_eq!(rt; bytes.as_slice(), spelling.as_bytes());
+    }
+    Ok(())
+}
+
+#[test]
+fn makes_lists_of_vectors(rt: HostRuntime) -> Result<(), Fail> {
+    let mut items = Vec::new(rt.alloc());
     items.push(Tree::Truth(true))?;
     let list = Trees::from_vec(items);
     assert_eq!(rt; list.as_slice().len(), 1);
     assert_eq!(rt; list.into_vec().len(), 1);
+    Ok(())
+}
+
+#[test]
+fn makes_objects_of_vectors(rt: HostRuntime) -> Result<(), Fail> {
+    let alloc = rt.alloc();
     let mut entries = Vec::new(alloc);
     entries.push(Member {
         key: lexeme(alloc, "k")?,

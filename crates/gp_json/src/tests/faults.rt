@@ -19,10 +19,10 @@ fn quoted(alloc: Global, bytes: &[u8]) -> Result<Vec<u8>, AllocError> {
     Ok(text)
 }
 
-// RFC 3629, section 4: the least and greatest of each row of its table, and what lies beside them.
+// RFC 3629, section 4: the least and greatest of each row of its table.
 #[test]
-fn takes_utf8_alone(rt: HostRuntime) -> Result<(), Fail> {
-    let valid: [&[u8]; 11] = [
+fn takes_utf8(rt: HostRuntime) -> Result<(), Fail> {
+    const ROWS: &[&[u8]] = &[
         b"\x7F",
         b"\xC2\x80",
         b"\xDF\xBF",
@@ -35,11 +35,17 @@ fn takes_utf8_alone(rt: HostRuntime) -> Result<(), Fail> {
         b"\xF3\xBF\xBF\xBF",
         b"\xF4\x8F\xBF\xBF",
     ];
-    for bytes in valid {
+    for &bytes in ROWS {
         let text = quoted(rt.alloc(), bytes)?;
         assert!(rt; read(rt.alloc(), &text).is_ok(), "{bytes:?}");
     }
-    let invalid: [&[u8]; 20] = [
+    Ok(())
+}
+
+// What lies beside them.
+#[test]
+fn takes_nothing_but_utf8(rt: HostRuntime) -> Result<(), Fail> {
+    const ROWS: &[&[u8]] = &[
         b"\x80",
         b"\xBF",
         b"\xC0\x80",
@@ -61,7 +67,7 @@ fn takes_utf8_alone(rt: HostRuntime) -> Result<(), Fail> {
         b"\xFE",
         b"\xFF",
     ];
-    for bytes in invalid {
+    for &bytes in ROWS {
         let text = quoted(rt.alloc(), bytes)?;
         let fault = fault_of(rt.alloc(), &text);
         assert_eq!(rt; fault, Some(JsonFault::NotUtf8), "{bytes:?}");
@@ -70,17 +76,23 @@ fn takes_utf8_alone(rt: HostRuntime) -> Result<(), Fail> {
 }
 
 // Keys are equal by their units, in each object by itself, however deep.
+const EQUAL_KEYS: &str =
+    "{\"a\":1,\"a\":2}\n{\"a\":1,\"\\u0061\":2}\n{\"\\n\":1,\"\\u000A\":2}\n{\"/\":1,\"\\/\":2}\n{\"\\uD834\\uDD1E\":1,\"\u{1D11E}\":2}\n{\"\\uDC00\":1,\"\\udc00\":2}\n{\"\":1,\"b\":2,\"\":3}\n{\"a\":1,\"b\":2,\"c\":3,\"d\":4,\"a\":5}\n[0,{\"b\":{\"b\":[],\"c\":0,\"b\":1}}]\n{\"a\":{\"x\":1},\"b\":[[{\"x\":1,\"x\":2}]]}";
+
+const DISTINCT_KEYS: &str =
+    "{\"a\":1,\"A\":2,\"\":3}\n{\"\\uD834\":1,\"\\uDD1E\":2,\"\\uD834\\uDD1E\":3}\n{\"a\":{\"a\":1},\"b\":[{\"a\":1},{\"a\":1}]}\n{\"u0061\":1,\"\\u0061\":2,\"\\\\u0061\":3}\n{\"\u{E9}\":1,\"e\u{301}\":2}";
+
 #[test]
 fn finds_equal_keys(rt: HostRuntime) {
-    let equal =
-        "{\"a\":1,\"a\":2}\n{\"a\":1,\"\\u0061\":2}\n{\"\\n\":1,\"\\u000A\":2}\n{\"/\":1,\"\\/\":2}\n{\"\\uD834\\uDD1E\":1,\"\u{1D11E}\":2}\n{\"\\uDC00\":1,\"\\udc00\":2}\n{\"\":1,\"b\":2,\"\":3}\n{\"a\":1,\"b\":2,\"c\":3,\"d\":4,\"a\":5}\n[0,{\"b\":{\"b\":[],\"c\":0,\"b\":1}}]\n{\"a\":{\"x\":1},\"b\":[[{\"x\":1,\"x\":2}]]}";
-    for line in equal.lines() {
+    for line in EQUAL_KEYS.lines() {
         let fault = fault_of(rt.alloc(), line.as_bytes());
         assert_eq!(rt; fault, Some(JsonFault::DuplicateKey), "{line}");
     }
-    let distinct =
-        "{\"a\":1,\"A\":2,\"\":3}\n{\"\\uD834\":1,\"\\uDD1E\":2,\"\\uD834\\uDD1E\":3}\n{\"a\":{\"a\":1},\"b\":[{\"a\":1},{\"a\":1}]}\n{\"u0061\":1,\"\\u0061\":2,\"\\\\u0061\":3}\n{\"\u{E9}\":1,\"e\u{301}\":2}";
-    for line in distinct.lines() {
+}
+
+#[test]
+fn tells_distinct_keys_apart(rt: HostRuntime) {
+    for line in DISTINCT_KEYS.lines() {
         assert!(rt; read(rt.alloc(), line.as_bytes()).is_ok(), "{line}");
     }
 }
@@ -118,7 +130,7 @@ fn nested(
 
 #[test]
 fn nests_to_128_levels(rt: HostRuntime) -> Result<(), Fail> {
-    let levels: [(&[u8], &[u8], usize, &[u8], bool); 9] = [
+    const ROWS: &[(&[u8], &[u8], usize, &[u8], bool)] = &[
         (b"[", b"]", 128, b"", true),
         (b"[", b"]", 128, b"{\"a\":0}", false),
         (b"[", b"]", 129, b"", false),
@@ -129,7 +141,7 @@ fn nests_to_128_levels(rt: HostRuntime) -> Result<(), Fail> {
         (b"[{ \"a\" : ", b"}]", 64, b"[]", false),
         (b"[0,[],", b"]", 127, b"[],{},0", true),
     ];
-    for (opening, closing, count, inner, sound) in levels {
+    for &(opening, closing, count, inner, sound) in ROWS {
         let text = nested(rt.alloc(), opening, closing, count, inner)?;
         let expected = if sound {
             None
@@ -139,6 +151,11 @@ fn nests_to_128_levels(rt: HostRuntime) -> Result<(), Fail> {
         let refused = read(rt.alloc(), &text).err();
         assert_eq!(rt; refused, expected.map(JsonRefusal::Fault), "{count}");
     }
+    Ok(())
+}
+
+#[test]
+fn stops_at_the_first_level_too_deep(rt: HostRuntime) -> Result<(), Fail> {
     let many = opened(rt.alloc(), b"", b"[", 1_000_000, b"")?;
     assert_eq!(rt; fault_of(rt.alloc(), &many), Some(JsonFault::TooDeep));
     Ok(())
@@ -147,7 +164,7 @@ fn nests_to_128_levels(rt: HostRuntime) -> Result<(), Fail> {
 // Of two faults the first in order is told, wherever the other stands.
 #[test]
 fn orders_two_faults(rt: HostRuntime) -> Result<(), Fail> {
-    let cases: [(&[u8], usize, &[u8], JsonFault); 18] = [
+    const ROWS: &[(&[u8], usize, &[u8], JsonFault)] = &[
         // no UTF-8, and too deep
         (b"", 129, b"\xFF", JsonFault::NotUtf8),
         (b"[\"\xFF\",", 129, b"", JsonFault::NotUtf8),
@@ -173,7 +190,7 @@ fn orders_two_faults(rt: HostRuntime) -> Result<(), Fail> {
         (b"[{\"a\":1,\"a\":2},}", 0, b"", JsonFault::NotJson),
         (b"[01,{\"a\":1,\"a\":2}]", 0, b"", JsonFault::NotJson),
     ];
-    for (front, brackets, rest, expected) in cases {
+    for &(front, brackets, rest, expected) in ROWS {
         let text = opened(rt.alloc(), front, b"[", brackets, rest)?;
         assert_eq!(rt; fault_of(rt.alloc(), &text), Some(expected), "{rest:?}");
     }

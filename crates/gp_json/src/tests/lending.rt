@@ -65,20 +65,20 @@ fn inner_removes(alloc: Global, text: &str, changed: &str) -> Result<bool, NoMem
 
 #[test]
 fn lends_items(rt: HostRuntime) {
-    let cases = [
+    const ROWS: &[(&str, usize, &str)] = &[
         ("[1]", 0, "[null]"),
         ("[1.0,[2],{\"a\":3}]", 0, "[null,[2],{\"a\":3}]"),
         ("[1.0,[2],{\"a\":3}]", 1, "[1.0,null,{\"a\":3}]"),
         ("[1.0,[2],{\"a\":3}]", 2, "[1.0,[2],null]"),
     ];
-    for (text, at, changed) in cases {
+    for &(text, at, changed) in ROWS {
         assert!(rt; matches!(item_changes(rt.alloc(), text, at, changed), Ok(true)));
     }
 }
 
 #[test]
 fn lends_values(rt: HostRuntime) {
-    let cases = [
+    const ROWS: &[(&str, &str, &str)] = &[
         ("{\"a\":1}", "a", "{\"a\":null}"),
         (
             "{\"ab\":1,\"\\u0062\":[2],\"c\":-0}",
@@ -96,7 +96,7 @@ fn lends_values(rt: HostRuntime) {
             "{\"ab\":1,\"\\u0062\":[2],\"c\":null}",
         ),
     ];
-    for (text, key, changed) in cases {
+    for &(text, key, changed) in ROWS {
         assert!(rt; matches!(value_changes(rt.alloc(), text, key, changed), Ok(true)));
     }
 }

@@ -39,18 +39,13 @@ fn reads_the_numbers_and_strings_of_the_grammar(rt: HostRuntime) -> Result<(), F
             assert!(rt; compacts(rt.alloc(), line, line)?, "{line}");
         }
     }
-    for lines in [NO_NUMBERS, NO_STRINGS] {
-        for line in lines.lines() {
-            assert!(rt; is_no_json(rt.alloc(), line.as_bytes()), "{line}");
-        }
-    }
     Ok(())
 }
 
 // Section 2: white space stands around values, keys, commas, colons and inside brackets.
 #[test]
 fn leaves_white_space_out(rt: HostRuntime) -> Result<(), Fail> {
-    let cases = [
+    const ROWS: &[(&str, &str)] = &[
         (" \t\r\n0\n\r\t ", "0"),
         ("\n[ ]\n", "[]"),
         ("\t{\r}", "{}"),
@@ -66,7 +61,7 @@ fn leaves_white_space_out(rt: HostRuntime) -> Result<(), Fail> {
             "{\"b\":1.0,\"a\":[1e2,-0,\"\\u0041\"],\"\":0}",
         ),
     ];
-    for (text, compact) in cases {
+    for &(text, compact) in ROWS {
         assert!(rt; compacts(rt.alloc(), text, compact)?, "{text}");
     }
     Ok(())
@@ -79,8 +74,11 @@ const NO_TEXTS: &str =
 
 #[test]
 fn refuses_other_texts(rt: HostRuntime) {
-    for line in NO_TEXTS.lines() {
-        assert!(rt; is_no_json(rt.alloc(), line.as_bytes()), "{line}");
+    const TEXTS: &[&str] = &[NO_NUMBERS, NO_STRINGS, NO_TEXTS];
+    for &lines in TEXTS {
+        for line in lines.lines() {
+            assert!(rt; is_no_json(rt.alloc(), line.as_bytes()), "{line}");
+        }
     }
     assert!(rt; is_no_json(rt.alloc(), b"\"a\nb\""));
     assert!(rt; is_no_json(rt.alloc(), b"\"a\\\nb\""));
