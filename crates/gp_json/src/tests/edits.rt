@@ -33,9 +33,10 @@ fn edits_members(rt: HostRuntime) -> Result<(), Fail> {
 
 #[test]
 fn edits_items(rt: HostRuntime) -> Result<(), Fail> {
+    const VALUES: &[u64] = &[5, 4_294_967_296, 18_446_744_073_709_551_615];
     let alloc = rt.alloc();
     let mut tree = Tree::list(alloc);
-    for value in [5, 4_294_967_296, 18_446_744_073_709_551_615] {
+    for &value in VALUES {
         tree.append(Tree::number(alloc, value)?)?;
     }
     assert!(rt; tree.remove_item(0));
