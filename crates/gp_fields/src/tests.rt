@@ -11,6 +11,7 @@ mod views;
 use crate::{FieldRefusal, Place, read_fields};
 use gp_json::read;
 use std::alloc::Global;
+use std::process::Abort;
 use std::test::Fail;
 
 // What a row of the table asks of a value. A reference points into a list of one item.
@@ -65,12 +66,11 @@ type Row = (&'static str, Kind, &'static str);
 // The place that is named, or `None` where all fields are read.
 type Answer = Option<(Place, usize)>;
 
-fn answer_to(alloc: Global, parts: &[&'static str]) -> Result<Answer, Fail> {
-    let mut text = Vec::new(alloc);
-    for part in parts {
-        text.extend_from_slice(part.as_bytes())?;
-    }
-    let root = read(alloc, &text)?;
+// A text, and what it is answered by.
+type Case = (&'static str, Answer);
+
+fn answer_to(alloc: Global, text: &[u8]) -> Result<Answer, Fail> {
+    let root = read(alloc, text)?;
     match read_fields(alloc, &root) {
         Ok(_) => Ok(None),
         Err(FieldRefusal::Fault(fault)) => Ok(Some((fault.member, fault.at))),
@@ -78,63 +78,69 @@ fn answer_to(alloc: Global, parts: &[&'static str]) -> Result<Answer, Fail> {
     }
 }
 
-// The first text, put into this frame, that is answered otherwise.
-fn odd_text(
-    alloc: Global,
-    answer: Answer,
-    frame: (&'static str, &'static str),
-    texts: &'static [&'static str],
-) -> Result<Option<&'static str>, Fail> {
-    for text in texts {
-        if answer_to(alloc, &[frame.0, *text, frame.1])? != answer {
-            return Ok(Some(*text));
-        }
+// The answer to a text in parts.
+fn assert_answer(rt: &impl Abort, alloc: Global, parts: &[&str], want: Answer) -> Result<(), Fail> {
+    let mut text = String::new(alloc);
+    for part in parts {
+        text.push_str(part)?;
     }
-    Ok(None)
+    let answer = answer_to(alloc, text.as_bytes())?;
+    assert_eq!(rt; answer, want, "{text}");
+    Ok(())
 }
 
-// The first case, put behind this text, that isn't answered by its own answer.
-fn odd_case(
+// The one answer to all these texts, each put into this frame.
+fn assert_texts(
+    rt: &impl Abort,
+    alloc: Global,
+    want: Answer,
+    (before, after): (&str, &str),
+    texts: &[&str],
+) -> Result<(), Fail> {
+    for text in texts {
+        assert_answer(rt, alloc, &[before, text, after], want)?;
+    }
+    Ok(())
+}
+
+// The answer to each case, put behind this text.
+fn assert_cases(
+    rt: &impl Abort,
     alloc: Global,
     before: &'static str,
-    cases: &'static [(&'static str, Answer)],
-) -> Result<Option<&'static str>, Fail> {
-    for case in cases {
-        let (text, answer) = *case;
-        if answer_to(alloc, &[before, text])? != answer {
-            return Ok(Some(text));
-        }
+    cases: &[Case],
+) -> Result<(), Fail> {
+    for &(text, want) in cases {
+        assert_answer(rt, alloc, &[before, text], want)?;
     }
-    Ok(None)
+    Ok(())
 }
 
-// The first value of another kind with which something else is named than this place.
-fn odd_value(
+// That this place is named with each value of another kind.
+fn assert_others(
+    rt: &impl Abort,
     alloc: Global,
     place: (Place, usize),
-    frame: (&'static str, &'static str),
-    row: Row,
-) -> Result<Option<&'static str>, Fail> {
-    let (before, kind, after) = row;
+    (first, last): (&'static str, &'static str),
+    (before, kind, after): Row,
+) -> Result<(), Fail> {
     for value in kind.others() {
-        if answer_to(alloc, &[frame.0, before, *value, after, frame.1])? != Some(place) {
-            return Ok(Some(*value));
-        }
+        let text = [first, before, *value, after, last];
+        assert_answer(rt, alloc, &text, Some(place))?;
     }
-    Ok(None)
+    Ok(())
 }
 
-// The first row with such a value, and that value.
-fn odd_row(
+// The same of each row.
+fn assert_rows(
+    rt: &impl Abort,
     alloc: Global,
     place: (Place, usize),
     frame: (&'static str, &'static str),
-    rows: &'static [Row],
-) -> Result<Option<(&'static str, &'static str)>, Fail> {
+    rows: &[Row],
+) -> Result<(), Fail> {
     for row in rows {
-        if let Some(value) = odd_value(alloc, place, frame, *row)? {
-            return Ok(Some((row.0, value)));
-        }
+        assert_others(rt, alloc, place, frame, *row)?;
     }
-    Ok(None)
+    Ok(())
 }

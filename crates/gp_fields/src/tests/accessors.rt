@@ -1,5 +1,5 @@
 // The rows of an accessor and of its sparse part (sections 5.1 to 5.4).
-use super::{Kind, odd_row, odd_text};
+use super::{Kind, Row, assert_rows, assert_texts};
 use crate::Place;
 use std::test::Fail;
 
@@ -11,7 +11,7 @@ const SPARSE: &str =
 
 #[test]
 fn refuses_an_accessor(rt: HostRuntime) -> Result<(), Fail> {
-    let rows = &[
+    const ROWS: &[Row] = &[
         ("", Kind::Object, ""),
         (
             r#"{"componentType":"#,
@@ -40,14 +40,12 @@ fn refuses_an_accessor(rt: HostRuntime) -> Result<(), Fail> {
             "}",
         ),
     ];
-    let odd = odd_row(rt.alloc(), (Place::Accessors, 1), (FRAME, "]}"), rows)?;
-    assert_eq!(rt; odd, None);
-    Ok(())
+    assert_rows(&rt, rt.alloc(), (Place::Accessors, 1), (FRAME, "]}"), ROWS)
 }
 
 #[test]
 fn refuses_a_sparse_part(rt: HostRuntime) -> Result<(), Fail> {
-    let rows = &[
+    const ROWS: &[Row] = &[
         (
             r#"{"count":"#,
             Kind::Whole,
@@ -89,46 +87,41 @@ fn refuses_a_sparse_part(rt: HostRuntime) -> Result<(), Fail> {
             "}}}",
         ),
     ];
-    let odd = odd_row(rt.alloc(), (Place::Accessors, 1), (SPARSE, "]}"), rows)?;
-    assert_eq!(rt; odd, None);
-    Ok(())
+    assert_rows(&rt, rt.alloc(), (Place::Accessors, 1), (SPARSE, "]}"), ROWS)
 }
 
 #[test]
 fn takes_an_accessor(rt: HostRuntime) -> Result<(), Fail> {
-    let items = &[
+    const TEXTS: &[&str] = &[
         r#"{"componentType":0,"count":0,"type":""}"#,
         r#"{"type":"MAT4","normalized":null,"byteOffset":4294967295,"count":4294967295,"bufferView":0,"componentType":4294967295}"#,
         r#"{"componentType":1,"count":1,"type":"a","sparse":{"count":1,"indices":{"bufferView":0,"componentType":1},"values":{"bufferView":0}}}"#,
         r#"{"componentType":1,"count":1,"type":"a","sparse":{"values":{"byteOffset":1,"bufferView":0},"count":1,"indices":{"bufferView":0,"byteOffset":1,"componentType":1}}}"#,
     ];
-    let odd = odd_text(rt.alloc(), None, (FRAME, "]}"), items)?;
-    assert_eq!(rt; odd, None);
-    Ok(())
+    assert_texts(&rt, rt.alloc(), None, (FRAME, "]}"), TEXTS)
 }
 
 // Each member that has to be there, left out in turn.
 #[test]
 fn refuses_an_accessor_without_a_member(rt: HostRuntime) -> Result<(), Fail> {
-    let items = &[
+    const TEXTS: &[&str] = &[
         r#"{"count":1,"type":"a"}"#,
         r#"{"componentType":1,"type":"a"}"#,
         r#"{"componentType":1,"count":1}"#,
     ];
-    let odd = odd_text(
+    assert_texts(
+        &rt,
         rt.alloc(),
         Some((Place::Accessors, 1)),
         (FRAME, "]}"),
-        items,
-    )?;
-    assert_eq!(rt; odd, None);
-    Ok(())
+        TEXTS,
+    )
 }
 
 // Each member that has to be there, left out in turn.
 #[test]
 fn refuses_a_sparse_part_without_a_member(rt: HostRuntime) -> Result<(), Fail> {
-    let items = &[
+    const TEXTS: &[&str] = &[
         r#"{"indices":{"bufferView":0,"componentType":1},"values":{"bufferView":0}}"#,
         r#"{"count":1,"values":{"bufferView":0}}"#,
         r#"{"count":1,"indices":{"bufferView":0,"componentType":1}}"#,
@@ -136,12 +129,11 @@ fn refuses_a_sparse_part_without_a_member(rt: HostRuntime) -> Result<(), Fail> {
         r#"{"count":1,"indices":{"bufferView":0},"values":{"bufferView":0}}"#,
         r#"{"count":1,"indices":{"bufferView":0,"componentType":1},"values":{}}"#,
     ];
-    let odd = odd_text(
+    assert_texts(
+        &rt,
         rt.alloc(),
         Some((Place::Accessors, 1)),
         (SPARSE, "}]}"),
-        items,
-    )?;
-    assert_eq!(rt; odd, None);
-    Ok(())
+        TEXTS,
+    )
 }

@@ -1,7 +1,12 @@
 // What is read of an asset with each field, and with those alone that have to be there.
-use crate::{SamplerFields, SparseFields, SparseIndicesFields, SparseValuesFields, read_fields};
+use crate::{
+    AccessorFields, AssetFields, PackedFields, SamplerFields, SparseFields, SparseIndicesFields,
+    SparseValuesFields, ViewFields, read_fields,
+};
 use gp_json::read;
-use gp_tree::Lexeme;
+use gp_tree::{Lexeme, Tree};
+use std::alloc::Global;
+use std::process::Abort;
 use std::test::Fail;
 
 const TEXT: &[u8] = br#"{
@@ -34,6 +39,10 @@ const TEXT: &[u8] = br#"{
   "images": [{"bufferView": 2}, {"uri": "c.png"}]
 }"#;
 
+fn fields_of<'a>(alloc: Global, root: &'a Tree) -> Result<AssetFields<'a>, Fail> {
+    Ok(read_fields(alloc, root)?)
+}
+
 fn bytes(spelling: Option<&Lexeme>) -> &[u8] {
     match spelling {
         Some(spelling) => spelling.as_slice(),
@@ -44,7 +53,7 @@ fn bytes(spelling: Option<&Lexeme>) -> &[u8] {
 #[test]
 fn reads_buffers(rt: HostRuntime) -> Result<(), Fail> {
     let root = read(rt.alloc(), TEXT)?;
-    let buffers = read_fields(rt.alloc(), &root)?.buffers;
+    let buffers = fields_of(rt.alloc(), &root)?.buffers;
     assert_eq!(rt; buffers.len(), 2);
     assert_eq!(rt; (buffers[0].length, buffers[1].length), (100, 200));
     assert_eq!(rt; bytes(buffers[0].uri), br"a\u0062.bin".as_slice());
@@ -59,86 +68,88 @@ fn reads_buffers(rt: HostRuntime) -> Result<(), Fail> {
     Ok(())
 }
 
+// The buffer, offset, length and stride of a view.
+fn assert_view(rt: &impl Abort, view: &ViewFields<'_>, want: (u32, u32, u32, Option<u32>)) {
+    assert_eq!(rt; (view.buffer, view.offset, view.length, view.stride), want);
+}
+
 #[test]
 fn reads_views(rt: HostRuntime) -> Result<(), Fail> {
     let root = read(rt.alloc(), TEXT)?;
-    let views = read_fields(rt.alloc(), &root)?.views;
+    let views = fields_of(rt.alloc(), &root)?.views;
     assert_eq!(rt; views.len(), 3);
-    let bare = &views[0];
-    assert_eq!(rt;
-        (bare.buffer, bare.offset, bare.length, bare.stride),
-        (0, 0, 10, None)
-    );
-    assert_eq!(rt; bare.packed.is_none(), true);
-    let full = &views[1];
-    assert_eq!(rt;
-        (full.buffer, full.offset, full.length, full.stride),
-        (1, 30, 20, Some(12))
-    );
+    assert_view(&rt, &views[0], (0, 0, 10, None));
+    assert_eq!(rt; views[0].packed.is_none(), true);
+    assert_view(&rt, &views[1], (1, 30, 20, Some(12)));
     Ok(())
+}
+
+// The buffer, offset, length, stride and count of a packed view, its mode and its filter.
+fn assert_packed(
+    rt: &impl Abort,
+    packed: &PackedFields<'_>,
+    (numbers, mode, filter): ([u32; 5], &[u8], &[u8]),
+) {
+    let (buffer, offset) = (packed.buffer, packed.offset);
+    let found = [buffer, offset, packed.length, packed.stride, packed.count];
+    assert_eq!(rt; found, numbers);
+    assert_eq!(rt; packed.mode.as_slice(), mode);
+    assert_eq!(rt; bytes(packed.filter), filter);
 }
 
 #[test]
 fn reads_packed_views(rt: HostRuntime) -> Result<(), Fail> {
     let root = read(rt.alloc(), TEXT)?;
-    let views = read_fields(rt.alloc(), &root)?.views;
+    let views = fields_of(rt.alloc(), &root)?.views;
     assert_eq!(rt; views.len(), 3);
     let full = views[1].packed.as_ref().ok_or("it is packed")?;
-    assert_eq!(rt;
-        (full.buffer, full.offset, full.length, full.stride),
-        (0, 40, 50, 12)
+    assert_packed(
+        &rt,
+        full,
+        ([0, 40, 50, 12, 60], b"ATTRIBUTES", b"OCTAHEDRAL"),
     );
-    assert_eq!(rt; full.count, 60);
-    assert_eq!(rt; full.mode.as_slice(), b"ATTRIBUTES".as_slice());
-    assert_eq!(rt; bytes(full.filter), b"OCTAHEDRAL".as_slice());
     let bare = views[2].packed.as_ref().ok_or("it is packed")?;
-    assert_eq!(rt;
-        (bare.buffer, bare.offset, bare.length, bare.stride),
-        (1, 0, 51, 2)
-    );
-    assert_eq!(rt; bare.count, 61);
-    assert_eq!(rt; bare.mode.as_slice(), b"INDICES".as_slice());
-    assert_eq!(rt; bytes(bare.filter), b"absent".as_slice());
+    assert_packed(&rt, bare, ([1, 0, 51, 2, 61], b"INDICES", b"absent"));
     Ok(())
+}
+
+// The view, offset, component and count of an accessor, and its type.
+fn assert_accessor(
+    rt: &impl Abort,
+    accessor: &AccessorFields<'_>,
+    want: (Option<u32>, u32, u32, u32),
+    shape: &[u8],
+) {
+    let (view, offset) = (accessor.view, accessor.offset);
+    assert_eq!(rt; (view, offset, accessor.component, accessor.count), want);
+    assert_eq!(rt; accessor.shape.as_slice(), shape);
 }
 
 #[test]
 fn reads_accessors(rt: HostRuntime) -> Result<(), Fail> {
-    let root = read(rt.alloc(), TEXT)?;
-    let accessors = read_fields(rt.alloc(), &root)?.accessors;
-    assert_eq!(rt; accessors.len(), 2);
-    let bare = &accessors[0];
-    assert_eq!(rt;
-        (bare.view, bare.offset, bare.component, bare.count),
-        (None, 0, 5126, 3)
-    );
-    assert_eq!(rt; bare.shape.as_slice(), b"VEC3".as_slice());
-    assert_eq!(rt; bare.sparse, None);
-    let full = &accessors[1];
-    assert_eq!(rt;
-        (full.view, full.offset, full.component, full.count),
-        (Some(1), 4, 5123, 5)
-    );
-    assert_eq!(rt; full.shape.as_slice(), b"SCALAR".as_slice());
-    let indices = SparseIndicesFields {
-        view: 2,
-        offset: 6,
-        component: 5121,
-    };
-    let values = SparseValuesFields { view: 1, offset: 0 };
-    let sparse = SparseFields {
+    const SPARSE: SparseFields = SparseFields {
         count: 2,
-        indices,
-        values,
+        indices: SparseIndicesFields {
+            view: 2,
+            offset: 6,
+            component: 5121,
+        },
+        values: SparseValuesFields { view: 1, offset: 0 },
     };
-    assert_eq!(rt; full.sparse, Some(sparse));
+    let root = read(rt.alloc(), TEXT)?;
+    let accessors = fields_of(rt.alloc(), &root)?.accessors;
+    assert_eq!(rt; accessors.len(), 2);
+    assert_accessor(&rt, &accessors[0], (None, 0, 5126, 3), b"VEC3");
+    assert_eq!(rt; accessors[0].sparse, None);
+    assert_accessor(&rt, &accessors[1], (Some(1), 4, 5123, 5), b"SCALAR");
+    assert_eq!(rt; accessors[1].sparse, Some(SPARSE));
     Ok(())
 }
 
 #[test]
 fn reads_a_bare_primitive(rt: HostRuntime) -> Result<(), Fail> {
     let root = read(rt.alloc(), TEXT)?;
-    let meshes = read_fields(rt.alloc(), &root)?.meshes;
+    let meshes = fields_of(rt.alloc(), &root)?.meshes;
     assert_eq!(rt; meshes.len(), 2);
     assert_eq!(rt;
         (meshes[0].primitives.len(), meshes[1].primitives.len()),
@@ -157,7 +168,7 @@ fn reads_a_bare_primitive(rt: HostRuntime) -> Result<(), Fail> {
 #[test]
 fn reads_a_full_primitive(rt: HostRuntime) -> Result<(), Fail> {
     let root = read(rt.alloc(), TEXT)?;
-    let meshes = read_fields(rt.alloc(), &root)?.meshes;
+    let meshes = fields_of(rt.alloc(), &root)?.meshes;
     assert_eq!(rt; meshes.len(), 2);
     assert_eq!(rt; meshes[1].primitives.len(), 2);
     let full = &meshes[1].primitives[1];
@@ -176,24 +187,25 @@ fn reads_a_full_primitive(rt: HostRuntime) -> Result<(), Fail> {
     Ok(())
 }
 
+const SAMPLERS: &[SamplerFields] = &[
+    SamplerFields {
+        input: 0,
+        output: 1,
+    },
+    SamplerFields {
+        input: 1,
+        output: 0,
+    },
+];
+
 #[test]
 fn reads_skins_animations_and_images(rt: HostRuntime) -> Result<(), Fail> {
     let root = read(rt.alloc(), TEXT)?;
-    let fields = read_fields(rt.alloc(), &root)?;
+    let fields = fields_of(rt.alloc(), &root)?;
     assert_eq!(rt; fields.skins.as_slice(), [None, Some(1)].as_slice());
     assert_eq!(rt; fields.images.as_slice(), [Some(2), None].as_slice());
     assert_eq!(rt; fields.animations.len(), 1);
-    let first = SamplerFields {
-        input: 0,
-        output: 1,
-    };
-    let second = SamplerFields {
-        input: 1,
-        output: 0,
-    };
-    assert_eq!(rt;
-        fields.animations[0].samplers.as_slice(),
-        [first, second].as_slice()
-    );
+    let samplers = fields.animations[0].samplers.as_slice();
+    assert_eq!(rt; samplers, SAMPLERS);
     Ok(())
 }

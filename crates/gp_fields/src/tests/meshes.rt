@@ -1,5 +1,5 @@
 // The rows of a mesh and of its primitives (sections 5.23 and 5.24).
-use super::{Kind, odd_row, odd_text};
+use super::{Kind, Row, assert_rows, assert_texts};
 use crate::Place;
 use std::test::Fail;
 
@@ -8,7 +8,7 @@ const FRAME: &str =
 
 #[test]
 fn refuses_a_mesh(rt: HostRuntime) -> Result<(), Fail> {
-    let rows = &[
+    const ROWS: &[Row] = &[
         ("", Kind::Object, ""),
         (r#"{"primitives":"#, Kind::List, "}"),
         (r#"{"primitives":[{"attributes":{}},"#, Kind::Object, "]}"),
@@ -29,14 +29,12 @@ fn refuses_a_mesh(rt: HostRuntime) -> Result<(), Fail> {
             r#","B":0}}]}"#,
         ),
     ];
-    let odd = odd_row(rt.alloc(), (Place::Meshes, 1), (FRAME, "]}"), rows)?;
-    assert_eq!(rt; odd, None);
-    Ok(())
+    assert_rows(&rt, rt.alloc(), (Place::Meshes, 1), (FRAME, "]}"), ROWS)
 }
 
 #[test]
 fn refuses_what_a_primitive_may_have(rt: HostRuntime) -> Result<(), Fail> {
-    let rows = &[
+    const ROWS: &[Row] = &[
         (
             r#"{"primitives":[{"attributes":{},"indices":"#,
             Kind::Reference,
@@ -73,35 +71,35 @@ fn refuses_what_a_primitive_may_have(rt: HostRuntime) -> Result<(), Fail> {
             "}]}]}",
         ),
     ];
-    let odd = odd_row(rt.alloc(), (Place::Meshes, 1), (FRAME, "]}"), rows)?;
-    assert_eq!(rt; odd, None);
-    Ok(())
+    assert_rows(&rt, rt.alloc(), (Place::Meshes, 1), (FRAME, "]}"), ROWS)
 }
 
 #[test]
 fn takes_a_mesh(rt: HostRuntime) -> Result<(), Fail> {
-    let items = &[
+    const TEXTS: &[&str] = &[
         r#"{"primitives":[],"weights":null}"#,
         r#"{"primitives":[{"attributes":{}}]}"#,
         r#"{"primitives":[{"attributes":{"":0,"_A":0},"material":null}]}"#,
         r#"{"primitives":[{"targets":[],"indices":0,"mode":0,"attributes":{"A":0}},{"attributes":{}}]}"#,
         r#"{"primitives":[{"attributes":{},"mode":4294967295,"targets":[{},{"A":0,"B":0}]}]}"#,
     ];
-    let odd = odd_text(rt.alloc(), None, (FRAME, "]}"), items)?;
-    assert_eq!(rt; odd, None);
-    Ok(())
+    assert_texts(&rt, rt.alloc(), None, (FRAME, "]}"), TEXTS)
 }
 
 // Each member that has to be there, left out in turn.
 #[test]
 fn refuses_a_mesh_without_a_member(rt: HostRuntime) -> Result<(), Fail> {
-    let items = &[
+    const TEXTS: &[&str] = &[
         r#"{}"#,
         r#"{"primitives":[{}]}"#,
         r#"{"primitives":[{"mode":4}]}"#,
         r#"{"primitives":[{"attributes":{}},{"indices":0}]}"#,
     ];
-    let odd = odd_text(rt.alloc(), Some((Place::Meshes, 1)), (FRAME, "]}"), items)?;
-    assert_eq!(rt; odd, None);
-    Ok(())
+    assert_texts(
+        &rt,
+        rt.alloc(),
+        Some((Place::Meshes, 1)),
+        (FRAME, "]}"),
+        TEXTS,
+    )
 }

@@ -1,23 +1,17 @@
 // Members of the root, and the order in which they are looked at (section 5.17).
-use super::{Kind, odd_case, odd_text, odd_value};
+use super::{Case, Kind, assert_cases, assert_others, assert_texts};
 use crate::Place;
 use std::test::Fail;
 
 #[test]
 fn the_root_is_an_object(rt: HostRuntime) -> Result<(), Fail> {
-    let odd = odd_text(
-        rt.alloc(),
-        Some((Place::Root, 0)),
-        ("", ""),
-        Kind::Object.others(),
-    )?;
-    assert_eq!(rt; odd, None);
-    Ok(())
+    let place = Some((Place::Root, 0));
+    assert_texts(&rt, rt.alloc(), place, ("", ""), Kind::Object.others())
 }
 
 #[test]
 fn members_are_lists(rt: HostRuntime) -> Result<(), Fail> {
-    let rows = [
+    const ROWS: &[(Place, &str)] = &[
         (Place::ExtensionsUsed, r#"{"extensionsUsed":"#),
         (Place::ExtensionsRequired, r#"{"extensionsRequired":"#),
         (Place::Buffers, r#"{"buffers":"#),
@@ -28,16 +22,16 @@ fn members_are_lists(rt: HostRuntime) -> Result<(), Fail> {
         (Place::Animations, r#"{"animations":"#),
         (Place::Images, r#"{"images":"#),
     ];
-    for (member, before) in rows {
-        let odd = odd_value(rt.alloc(), (member, 0), (before, "}"), ("", Kind::List, ""))?;
-        assert_eq!(rt; odd, None, "{before}");
+    for &(member, before) in ROWS {
+        let row = (before, Kind::List, "}");
+        assert_others(&rt, rt.alloc(), (member, 0), ("", ""), row)?;
     }
     Ok(())
 }
 
 #[test]
 fn names_of_extensions_are_texts(rt: HostRuntime) -> Result<(), Fail> {
-    let rows = [
+    const ROWS: &[((Place, usize), &str, &str)] = &[
         ((Place::ExtensionsUsed, 0), r#"{"extensionsUsed":["#, "]}"),
         (
             (Place::ExtensionsUsed, 2),
@@ -60,9 +54,9 @@ fn names_of_extensions_are_texts(rt: HostRuntime) -> Result<(), Fail> {
             "]}",
         ),
     ];
-    for (place, before, after) in rows {
-        let odd = odd_value(rt.alloc(), place, ("", ""), (before, Kind::Text, after))?;
-        assert_eq!(rt; odd, None, "{before}");
+    for &(place, before, after) in ROWS {
+        let row = (before, Kind::Text, after);
+        assert_others(&rt, rt.alloc(), place, ("", ""), row)?;
     }
     Ok(())
 }
@@ -70,7 +64,7 @@ fn names_of_extensions_are_texts(rt: HostRuntime) -> Result<(), Fail> {
 // In each text some members are broken, those that are looked at first last.
 #[test]
 fn the_first_member_is_named(rt: HostRuntime) -> Result<(), Fail> {
-    let cases = &[
+    const CASES: &[Case] = &[
         (
             r#"{"images":null,"animations":null,"skins":null,"meshes":null,"accessors":null,"bufferViews":null,"buffers":null,"extensionsRequired":null,"extensionsUsed":null}"#,
             Some((Place::ExtensionsUsed, 0)),
@@ -105,14 +99,12 @@ fn the_first_member_is_named(rt: HostRuntime) -> Result<(), Fail> {
         ),
         (r#"{"images":null}"#, Some((Place::Images, 0))),
     ];
-    let odd = odd_case(rt.alloc(), "", cases)?;
-    assert_eq!(rt; odd, None);
-    Ok(())
+    assert_cases(&rt, rt.alloc(), "", CASES)
 }
 
 #[test]
 fn the_first_item_is_named(rt: HostRuntime) -> Result<(), Fail> {
-    let cases = &[
+    const CASES: &[Case] = &[
         (
             r#"{"extensionsUsed":["a",1,null,"b",1]}"#,
             Some((Place::ExtensionsUsed, 1)),
@@ -150,9 +142,7 @@ fn the_first_item_is_named(rt: HostRuntime) -> Result<(), Fail> {
             Some((Place::Images, 0)),
         ),
     ];
-    let odd = odd_case(rt.alloc(), "", cases)?;
-    assert_eq!(rt; odd, None);
-    Ok(())
+    assert_cases(&rt, rt.alloc(), "", CASES)
 }
 
 // Two buffers, three buffer views and four accessors.
@@ -161,7 +151,7 @@ const THINGS: &str =
 
 #[test]
 fn references_are_below_the_lengths(rt: HostRuntime) -> Result<(), Fail> {
-    let cases = &[
+    const CASES: &[Case] = &[
         ("}", None),
         (r#","images":[{"bufferView":2}]}"#, None),
         (r#","images":[{"bufferView":3}]}"#, Some((Place::Images, 0))),
@@ -199,15 +189,13 @@ fn references_are_below_the_lengths(rt: HostRuntime) -> Result<(), Fail> {
             Some((Place::Animations, 0)),
         ),
     ];
-    let odd = odd_case(rt.alloc(), THINGS, cases)?;
-    assert_eq!(rt; odd, None);
-    Ok(())
+    assert_cases(&rt, rt.alloc(), THINGS, CASES)
 }
 
 // A member that is absent is an empty list, to which no reference points.
 #[test]
 fn members_may_be_absent(rt: HostRuntime) -> Result<(), Fail> {
-    let cases = &[
+    const CASES: &[Case] = &[
         ("{}", None),
         (
             r#"{"asset":null,"scene":"","nodes":{},"extensions":[]}"#,
@@ -243,7 +231,5 @@ fn members_may_be_absent(rt: HostRuntime) -> Result<(), Fail> {
         ),
         (r#"{"images":[{"bufferView":0}]}"#, Some((Place::Images, 0))),
     ];
-    let odd = odd_case(rt.alloc(), "", cases)?;
-    assert_eq!(rt; odd, None);
-    Ok(())
+    assert_cases(&rt, rt.alloc(), "", CASES)
 }

@@ -1,5 +1,5 @@
 // The rows of a skin (section 5.28), an animation (sections 5.5 and 5.8) and an image (section 5.18).
-use super::{Kind, odd_row, odd_text};
+use super::{Kind, Row, assert_rows, assert_texts};
 use crate::Place;
 use std::test::Fail;
 
@@ -14,29 +14,25 @@ const IMAGES: &str =
 
 #[test]
 fn refuses_a_skin(rt: HostRuntime) -> Result<(), Fail> {
-    let rows = &[
+    const ROWS: &[Row] = &[
         ("", Kind::Object, ""),
         (r#"{"inverseBindMatrices":"#, Kind::Reference, "}"),
     ];
-    let odd = odd_row(rt.alloc(), (Place::Skins, 1), (SKINS, "]}"), rows)?;
-    assert_eq!(rt; odd, None);
-    Ok(())
+    assert_rows(&rt, rt.alloc(), (Place::Skins, 1), (SKINS, "]}"), ROWS)
 }
 
 #[test]
 fn refuses_an_image(rt: HostRuntime) -> Result<(), Fail> {
-    let rows = &[
+    const ROWS: &[Row] = &[
         ("", Kind::Object, ""),
         (r#"{"bufferView":"#, Kind::Reference, "}"),
     ];
-    let odd = odd_row(rt.alloc(), (Place::Images, 1), (IMAGES, "]}"), rows)?;
-    assert_eq!(rt; odd, None);
-    Ok(())
+    assert_rows(&rt, rt.alloc(), (Place::Images, 1), (IMAGES, "]}"), ROWS)
 }
 
 #[test]
 fn refuses_an_animation(rt: HostRuntime) -> Result<(), Fail> {
-    let rows = &[
+    const ROWS: &[Row] = &[
         ("", Kind::Object, ""),
         (r#"{"samplers":"#, Kind::List, "}"),
         (
@@ -55,27 +51,30 @@ fn refuses_an_animation(rt: HostRuntime) -> Result<(), Fail> {
             "}]}",
         ),
     ];
-    let odd = odd_row(rt.alloc(), (Place::Animations, 1), (ANIMATIONS, "]}"), rows)?;
-    assert_eq!(rt; odd, None);
-    Ok(())
+    assert_rows(
+        &rt,
+        rt.alloc(),
+        (Place::Animations, 1),
+        (ANIMATIONS, "]}"),
+        ROWS,
+    )
 }
 
 // Each member that has to be there, left out in turn.
 #[test]
 fn refuses_an_animation_without_a_member(rt: HostRuntime) -> Result<(), Fail> {
-    let items = &[
+    const TEXTS: &[&str] = &[
         r#"{}"#,
         r#"{"samplers":[{}]}"#,
         r#"{"samplers":[{"output":0}]}"#,
         r#"{"samplers":[{"input":0}]}"#,
         r#"{"samplers":[{"input":0,"output":0},{"input":0}]}"#,
     ];
-    let odd = odd_text(
+    assert_texts(
+        &rt,
         rt.alloc(),
         Some((Place::Animations, 1)),
         (ANIMATIONS, "]}"),
-        items,
-    )?;
-    assert_eq!(rt; odd, None);
-    Ok(())
+        TEXTS,
+    )
 }

@@ -1,5 +1,5 @@
 // The rows of a buffer view (section 5.11), and of its extension object.
-use super::{Kind, odd_row, odd_text};
+use super::{Kind, Row, assert_rows, assert_texts};
 use crate::Place;
 use std::test::Fail;
 
@@ -10,7 +10,7 @@ const PACKED: &str =
 
 #[test]
 fn refuses_a_view(rt: HostRuntime) -> Result<(), Fail> {
-    let rows = &[
+    const ROWS: &[Row] = &[
         ("", Kind::Object, ""),
         (r#"{"buffer":"#, Kind::Reference, r#","byteLength":1}"#),
         (r#"{"buffer":0,"byteLength":"#, Kind::Whole, "}"),
@@ -30,14 +30,18 @@ fn refuses_a_view(rt: HostRuntime) -> Result<(), Fail> {
             "}",
         ),
     ];
-    let odd = odd_row(rt.alloc(), (Place::BufferViews, 1), (FRAME, "]}"), rows)?;
-    assert_eq!(rt; odd, None);
-    Ok(())
+    assert_rows(
+        &rt,
+        rt.alloc(),
+        (Place::BufferViews, 1),
+        (FRAME, "]}"),
+        ROWS,
+    )
 }
 
 #[test]
 fn refuses_a_packed_view(rt: HostRuntime) -> Result<(), Fail> {
-    let rows = &[
+    const ROWS: &[Row] = &[
         ("", Kind::Object, "}}"),
         (
             r#"{"buffer":"#,
@@ -75,14 +79,18 @@ fn refuses_a_packed_view(rt: HostRuntime) -> Result<(), Fail> {
             "}}}",
         ),
     ];
-    let odd = odd_row(rt.alloc(), (Place::BufferViews, 1), (PACKED, "]}"), rows)?;
-    assert_eq!(rt; odd, None);
-    Ok(())
+    assert_rows(
+        &rt,
+        rt.alloc(),
+        (Place::BufferViews, 1),
+        (PACKED, "]}"),
+        ROWS,
+    )
 }
 
 #[test]
 fn takes_a_view(rt: HostRuntime) -> Result<(), Fail> {
-    let items = &[
+    const TEXTS: &[&str] = &[
         r#"{"buffer":0,"byteLength":4294967295}"#,
         r#"{"byteStride":4294967295,"byteLength":0,"byteOffset":0,"buffer":0,"target":null}"#,
         r#"{"buffer":0,"byteLength":1,"extensions":{}}"#,
@@ -90,29 +98,26 @@ fn takes_a_view(rt: HostRuntime) -> Result<(), Fail> {
         r#"{"buffer":0,"byteLength":1,"extensions":{"EXT_meshopt_compression":{"buffer":0,"byteLength":1,"byteStride":4,"count":1,"mode":"a"}}}"#,
         r#"{"buffer":0,"byteLength":1,"extensions":{"EXT_meshopt_compression":{"filter":"","byteOffset":7,"buffer":0,"byteLength":1,"byteStride":4,"count":1,"mode":""}}}"#,
     ];
-    let odd = odd_text(rt.alloc(), None, (FRAME, "]}"), items)?;
-    assert_eq!(rt; odd, None);
-    Ok(())
+    assert_texts(&rt, rt.alloc(), None, (FRAME, "]}"), TEXTS)
 }
 
 // Each member that has to be there, left out in turn.
 #[test]
 fn refuses_a_view_without_a_member(rt: HostRuntime) -> Result<(), Fail> {
-    let items = &[r#"{"byteLength":1}"#, r#"{"buffer":0}"#];
-    let odd = odd_text(
+    const TEXTS: &[&str] = &[r#"{"byteLength":1}"#, r#"{"buffer":0}"#];
+    assert_texts(
+        &rt,
         rt.alloc(),
         Some((Place::BufferViews, 1)),
         (FRAME, "]}"),
-        items,
-    )?;
-    assert_eq!(rt; odd, None);
-    Ok(())
+        TEXTS,
+    )
 }
 
 // Each member that has to be there, left out in turn.
 #[test]
 fn refuses_a_packed_view_without_a_member(rt: HostRuntime) -> Result<(), Fail> {
-    let items = &[
+    const TEXTS: &[&str] = &[
         r#"{}"#,
         r#"{"byteLength":1,"byteStride":4,"count":1,"mode":"a"}"#,
         r#"{"buffer":0,"byteStride":4,"count":1,"mode":"a"}"#,
@@ -120,12 +125,11 @@ fn refuses_a_packed_view_without_a_member(rt: HostRuntime) -> Result<(), Fail> {
         r#"{"buffer":0,"byteLength":1,"byteStride":4,"mode":"a"}"#,
         r#"{"buffer":0,"byteLength":1,"byteStride":4,"count":1}"#,
     ];
-    let odd = odd_text(
+    assert_texts(
+        &rt,
         rt.alloc(),
         Some((Place::BufferViews, 1)),
         (PACKED, "}}]}"),
-        items,
-    )?;
-    assert_eq!(rt; odd, None);
-    Ok(())
+        TEXTS,
+    )
 }
