@@ -3,12 +3,13 @@ use Prim.Native.String.{String}
 use Rattle.std.specs.Prelude.{◌≡◌, ℕ, Bool, true, false, List, [], ◌∷◌, Option, Some, None, Ok, Err, codes}
 use Rattle.std.proofs.Common.{refl}
 use Rattle.std.specs.Str.{chars}
-use Rattle.gp_tree.specs.Plain.{PlainTree, null, number, text, list, members, trees_of, members_of}
+use Rattle.gp_tree.specs.Plain.{PlainTree, null}
 use Rattle.gp_tree.specs.Find.{PlainMember}
 use Rattle.gp_glb.specs.Uri.{code_of, strip_prefix}
 use Rattle.gp_fields.specs.declared.geometry.Entry.{Entry}
 use Rattle.gp_fields.specs.declared.geometry.PrimitiveFields.{PrimitiveFields}
 use Rattle.gp_fields.specs.Record.{asset_fields}
+use Rattle.gp_fields.proofs.SmallValues.{n, word, array, object, ◌is◌}
 use Rattle.gp_asset.specs.declared.purpose.Form.TheVariants.{Plain, Any}
 use Rattle.gp_rules.specs.declared.fault.AssetFault.{AssetFault}
 use Rattle.gp_rules.specs.declared.fault.AssetFault.TheVariants.{AlreadyPacked, Foreign, Buffer, Scheme, View as BadView, Accessor as BadAccessor, TooMuchData}
@@ -25,24 +26,6 @@ use Rattle.gp_rules.specs.Accessors.{known_accessor, is_bad_accessor, accessor_o
 use Rattle.gp_asset.specs.Primitives.{primitives_of}
 use Rattle.gp_asset.specs.Uses.{use_as, uses_of_all, references, of_accessor, of_sparse_indices, of_sparse_values, of_image}
 use Rattle.gp_asset.specs.Asset.{AssetParts, by_rules, asset}
-
--- ---- small values
-
-abbrev n : String → PlainTree
-n spelling = number (codes spelling)
-
-abbrev word : String → PlainTree
-word s = text (codes s)
-
-abbrev array : List PlainTree → PlainTree
-array ts = list (trees_of ts)
-
-abbrev object : List PlainMember → PlainTree
-object ms = members (members_of ms)
-
-infix 70 ◌is◌
-abbrev ◌is◌ : String → PlainTree → PlainMember
-name is value = (codes name, value)
 
 abbrev fault_in : Checked AssetParts → Option AssetFault
 fault_in (Ok parts) = None

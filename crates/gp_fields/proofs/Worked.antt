@@ -1,32 +1,14 @@
 -- Small assets, as the definitions see them, by computing.
 use Prim.Native.String.{String}
-use Rattle.std.specs.Prelude.{◌≡◌, List, [], ◌∷◌, Option, Some, None, codes}
+use Rattle.std.specs.Prelude.{◌≡◌, [], ◌∷◌, Option, Some, None}
 use Rattle.std.proofs.Common.{refl}
 use Rattle.std.specs.Str.{chars}
-use Rattle.gp_tree.specs.Plain.{PlainTree, null, number, text, list, members, trees_of, members_of}
-use Rattle.gp_tree.specs.Find.{PlainMember}
+use Rattle.gp_tree.specs.Plain.{PlainTree, null}
 use Rattle.gp_fields.specs.declared.fault.Place.TheVariants.{Root, ExtensionsUsed, Buffers, BufferViews, Accessors, Meshes, Skins, Animations, Images}
 use Rattle.gp_fields.specs.declared.fault.FieldFault.{FieldFault}
 use Rattle.gp_fields.specs.Fields.{mesh_fields}
 use Rattle.gp_fields.specs.Record.{asset_fields, fault_of, lacking}
-
--- ---- small values
-
-abbrev n : String → PlainTree
-n spelling = number (codes spelling)
-
-abbrev word : String → PlainTree
-word s = text (codes s)
-
-abbrev array : List PlainTree → PlainTree
-array ts = list (trees_of ts)
-
-abbrev object : List PlainMember → PlainTree
-object ms = members (members_of ms)
-
-infix 70 ◌is◌
-abbrev ◌is◌ : String → PlainTree → PlainMember
-name is value = (codes name, value)
+use Rattle.gp_fields.proofs.SmallValues.{n, word, array, object, ◌is◌}
 
 -- a buffer of 4 bytes, a buffer view of buffer b, and an accessor of floats in view 0
 abbrev buffer : PlainTree
