@@ -23,9 +23,6 @@ pub enum Refusal {
     /// The stream of buffer view `view` has a fault; the views before it have none.
     #[error("no stream")]
     Stream { view: usize, fault: StreamFault },
-    /// The asset asks for more than is built.
-    #[error("not yet")]
-    NotYet,
     /// The output would have 2^32 bytes or more.
     #[error("the output is too large")]
     OutputTooLarge,

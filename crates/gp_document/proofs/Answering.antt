@@ -2,10 +2,10 @@
 use Rattle.std.proofs.Common.{◌≡◌, inl, inr, ℕ, List, Result, Ok, Err, refl, ap, ◌∙◌}
 use Rattle.gp_groups.specs.declared.fault.StreamFault.{StreamFault}
 use Rattle.gp_asset.specs.declared.refusal.Refusal.{Refusal}
-use Rattle.gp_asset.specs.declared.refusal.Refusal.TheVariants.{Glb, Json, Asset, Stream, NotYet, OutputTooLarge, Memory}
+use Rattle.gp_asset.specs.declared.refusal.Refusal.TheVariants.{Glb, Json, Asset, Stream, OutputTooLarge, Memory}
 use Rattle.gp_asset.specs.declared.purpose.Form.{Form}
 use Rattle.gp_document.specs.Accepted.{IsAccepted}
-use Rattle.gp_document.specs.Operation.{Made, Hindrance, unbuilt, faulty_stream, Operation}
+use Rattle.gp_document.specs.Operation.{Made, Hindrance, faulty_stream, Operation}
 use Rattle.gp_document.specs.Answers.{AnswersOrMemory, IsOnlyAnswer}
 use Rattle.gp_document.specs.Reading.{document_of, IsAcceptedAs, IsInputFaultOrMemory}
 use Rattle.gp_document.specs.Writing.{Finishes}
@@ -27,23 +27,13 @@ finishes operation bytes a (Ok made) (Err (Glb fault)) is h = absurd h
 finishes operation bytes a (Ok made) (Err (Json fault)) is h = absurd h
 finishes operation bytes a (Ok made) (Err (Asset fault)) is h = absurd h
 finishes operation bytes a (Ok made) (Err (Stream at other)) is h = absurd h
-finishes operation bytes a (Ok made) (Err NotYet) is h = absurd h
 finishes operation bytes a (Ok made) (Err OutputTooLarge) is h = inl (record { accepted = a; made = made; is_made = is; large = h })
 finishes operation bytes a (Ok made) (Err Memory) is h = inr refl
-finishes operation bytes a (Err unbuilt) (Ok out) is h = absurd h
-finishes operation bytes a (Err unbuilt) (Err (Glb fault)) is h = absurd h
-finishes operation bytes a (Err unbuilt) (Err (Json fault)) is h = absurd h
-finishes operation bytes a (Err unbuilt) (Err (Asset fault)) is h = absurd h
-finishes operation bytes a (Err unbuilt) (Err (Stream at other)) is h = absurd h
-finishes operation bytes a (Err unbuilt) (Err NotYet) is h = inl (record { accepted = a; hindered = is })
-finishes operation bytes a (Err unbuilt) (Err OutputTooLarge) is h = absurd h
-finishes operation bytes a (Err unbuilt) (Err Memory) is h = inr refl
 finishes operation bytes a (Err (faulty_stream view fault)) (Ok out) is h = absurd h
 finishes operation bytes a (Err (faulty_stream view fault)) (Err (Glb g)) is h = absurd h
 finishes operation bytes a (Err (faulty_stream view fault)) (Err (Json g)) is h = absurd h
 finishes operation bytes a (Err (faulty_stream view fault)) (Err (Asset g)) is h = absurd h
 finishes operation bytes a (Err (faulty_stream view fault)) (Err (Stream at other)) is h = inl (record { accepted = a; hindered = is ∙ ap Err (at_stream view at fault other h.0 h.1) })
-finishes operation bytes a (Err (faulty_stream view fault)) (Err NotYet) is h = absurd h
 finishes operation bytes a (Err (faulty_stream view fault)) (Err OutputTooLarge) is h = absurd h
 finishes operation bytes a (Err (faulty_stream view fault)) (Err Memory) is h = inr refl
 
@@ -59,7 +49,6 @@ refused_answers operation bytes (Glb fault) (inl h) = inl h
 refused_answers operation bytes (Json fault) (inl h) = inl h
 refused_answers operation bytes (Asset fault) (inl h) = inl h
 refused_answers operation bytes (Stream view fault) (inl h) = absurd h
-refused_answers operation bytes NotYet (inl h) = absurd h
 refused_answers operation bytes OutputTooLarge (inl h) = absurd h
 refused_answers operation bytes Memory (inl h) = absurd h
 refused_answers operation bytes refusal (inr none) = inr (ap Err none)

@@ -2,8 +2,7 @@
 use Rattle.std.proofs.Common.{◌≡◌, ℕ, Bool, true, false, List, Option, Result, Ok, Err, sym, ◌∙◌, subst}
 use Rattle.gp_tree.specs.Plain.{PlainTree}
 use Rattle.gp_asset.specs.declared.refusal.Refusal.{Refusal}
-use Rattle.gp_asset.specs.declared.refusal.Refusal.TheVariants.{NotYet}
-use Rattle.gp_document.specs.Operation.{Made, Hindrance, unless_unbuilt}
+use Rattle.gp_document.specs.Operation.{Made, Hindrance}
 use Rattle.gp_document.specs.Writing.{made_of, Writes, Finishes}
 use Rattle.gp_document.specs.declared.output.Output.{Output}
 
@@ -15,16 +14,3 @@ writes_equal rest tree other bin same views number streams count answer is holds
     (subst (λ k. Writes (made_of other same rest k streams) answer) counted
     (subst (λ b. Writes (made_of other b rest views streams) answer) holds
     (subst (λ t. Writes (made_of t bin rest views streams) answer) is writes)))
-
--- a test says that more is asked for than is built
-pub not_built : (test b : Bool) (made : Result Made Hindrance) → b ≡ test → b ≡ true → Finishes (unless_unbuilt test made) (Err NotYet)
-not_built test b made tests unbuilt = subst (λ c. Finishes (unless_unbuilt c made) (Err NotYet)) (sym unbuilt ∙ tests) tt
-
--- or that it isn't
-pub built : (test b : Bool) (made : Result Made Hindrance) (answer : Result Output Refusal) → b ≡ test → b ≡ false → Finishes made answer → Finishes (unless_unbuilt test made) answer
-built test b made answer tests none finishes = subst (λ c. Finishes (unless_unbuilt c made) answer) (sym none ∙ tests) finishes
-
--- something is made only where it isn't
-pub was_built : (test : Bool) (made : Result Made Hindrance) (m : Made) → unless_unbuilt test made ≡ Ok m → made ≡ Ok m
-was_built true made m e = absurd (cc)
-was_built false made m e = e

@@ -17,10 +17,10 @@ use Rattle.gp_asset.specs.Asset.{AssetParts}
 use Rattle.gp_rules.specs.declared.fault.AssetFault.{AssetFault}
 use Rattle.gp_asset.specs.declared.purpose.Form.{Form}
 use Rattle.gp_asset.specs.declared.refusal.Refusal.{Refusal}
-use Rattle.gp_asset.specs.declared.refusal.Refusal.TheVariants.{Glb, Json, Asset, Stream, NotYet, OutputTooLarge, Memory}
+use Rattle.gp_asset.specs.declared.refusal.Refusal.TheVariants.{Glb, Json, Asset, Stream, OutputTooLarge, Memory}
 use Rattle.gp_document.specs.Document.{Document, Holds, IsDocument, glb_of}
 use Rattle.gp_document.specs.Accepted.{asset_of, HoldsAsset, IsAccepted, IsFaulty}
-use Rattle.gp_document.specs.Operation.{Made, Hindrance, unbuilt, faulty_stream, Operation}
+use Rattle.gp_document.specs.Operation.{Made, Hindrance, faulty_stream, Operation}
 use Rattle.gp_document.specs.Faults.{HasFault, IsHindered, IsTooLarge}
 use Rattle.gp_document.specs.Answers.{IsMade}
 use Rattle.gp_document.specs.Laws.{HaveOneAnswer, DocumentsAreSound}
@@ -124,7 +124,6 @@ made_not_faulty operation bytes a (Glb fault) h k = no_glb_before bytes h.accept
 made_not_faulty operation bytes a (Json fault) h k = no_json_before bytes h.accepted.document fault h.accepted.is_document k
 made_not_faulty operation bytes a (Asset fault) h k = faulty_not_accepted operation.form bytes fault k h.accepted
 made_not_faulty operation bytes a (Stream view fault) h k = hindered_not_made operation bytes (faulty_stream view fault) k h.accepted h.made h.is_made
-made_not_faulty operation bytes a NotYet h k = hindered_not_made operation bytes unbuilt k h.accepted h.made h.is_made
 made_not_faulty operation bytes a OutputTooLarge h k = fits_or_large operation bytes a h k
 made_not_faulty operation bytes a Memory h k = k
 
@@ -133,7 +132,6 @@ glb_one operation bytes fault (Glb g) h k = let e : ◌≡◌ {A = Result Contai
 glb_one operation bytes fault (Json g) h k = absurd (no_glb_fault bytes k.0 fault k.1 h)
 glb_one operation bytes fault (Asset g) h k = absurd (no_glb_before bytes k.document fault k.is_document h)
 glb_one operation bytes fault (Stream view g) h k = absurd (no_glb_before bytes k.accepted.document fault k.accepted.is_document h)
-glb_one operation bytes fault NotYet h k = absurd (no_glb_before bytes k.accepted.document fault k.accepted.is_document h)
 glb_one operation bytes fault OutputTooLarge h k = absurd (no_glb_before bytes k.accepted.document fault k.accepted.is_document h)
 glb_one operation bytes fault Memory h k = absurd k
 
@@ -144,7 +142,6 @@ json_one operation bytes fault (Json g) h k =
     ap Json (fault_unique k.0.json fault g (subst (λ s. HasJsonFault s fault) same h.2) k.2)
 json_one operation bytes fault (Asset g) h k = absurd (no_json_before bytes k.document fault k.is_document h)
 json_one operation bytes fault (Stream view g) h k = absurd (no_json_before bytes k.accepted.document fault k.accepted.is_document h)
-json_one operation bytes fault NotYet h k = absurd (no_json_before bytes k.accepted.document fault k.accepted.is_document h)
 json_one operation bytes fault OutputTooLarge h k = absurd (no_json_before bytes k.accepted.document fault k.accepted.is_document h)
 json_one operation bytes fault Memory h k = absurd k
 
@@ -153,13 +150,11 @@ asset_fault_one operation bytes fault (Glb g) h k = sym (glb_one operation bytes
 asset_fault_one operation bytes fault (Json g) h k = sym (json_one operation bytes g (Asset fault) k h)
 asset_fault_one operation bytes fault (Asset g) h k = ap Asset (faulty_one operation.form bytes fault g h k)
 asset_fault_one operation bytes fault (Stream view g) h k = absurd (faulty_not_accepted operation.form bytes fault h k.accepted)
-asset_fault_one operation bytes fault NotYet h k = absurd (faulty_not_accepted operation.form bytes fault h k.accepted)
 asset_fault_one operation bytes fault OutputTooLarge h k = absurd (faulty_not_accepted operation.form bytes fault h k.accepted)
 asset_fault_one operation bytes fault Memory h k = absurd k
 
 -- the refusal for a hindrance
 abbrev refused_by : Hindrance → Refusal
-refused_by unbuilt = NotYet
 refused_by (faulty_stream view fault) = Stream view fault
 
 hindrance_one : (operation : Operation) (bytes : List ℕ) (hindrance : Hindrance) (other : Refusal) → IsHindered operation bytes hindrance → HasFault operation bytes (refused_by hindrance) → HasFault operation bytes other → refused_by hindrance ≡ other
@@ -167,7 +162,6 @@ hindrance_one operation bytes hindrance (Glb g) h own k = sym (glb_one operation
 hindrance_one operation bytes hindrance (Json g) h own k = sym (json_one operation bytes g (refused_by hindrance) k own)
 hindrance_one operation bytes hindrance (Asset g) h own k = sym (asset_fault_one operation bytes g (refused_by hindrance) k own)
 hindrance_one operation bytes hindrance (Stream view g) h own k = ap refused_by (hindered_one operation bytes hindrance (faulty_stream view g) h k)
-hindrance_one operation bytes hindrance NotYet h own k = ap refused_by (hindered_one operation bytes hindrance unbuilt h k)
 hindrance_one operation bytes hindrance OutputTooLarge h own k = absurd (hindered_not_made operation bytes hindrance h k.accepted k.made k.is_made)
 hindrance_one operation bytes hindrance Memory h own k = absurd k
 
@@ -176,12 +170,10 @@ fault_one operation bytes (Glb fault) other h k = glb_one operation bytes fault 
 fault_one operation bytes (Json fault) other h k = json_one operation bytes fault other h k
 fault_one operation bytes (Asset fault) other h k = asset_fault_one operation bytes fault other h k
 fault_one operation bytes (Stream view fault) other h k = hindrance_one operation bytes (faulty_stream view fault) other h h k
-fault_one operation bytes NotYet other h k = hindrance_one operation bytes unbuilt other h h k
 fault_one operation bytes OutputTooLarge (Glb g) h k = sym (glb_one operation bytes g OutputTooLarge k h)
 fault_one operation bytes OutputTooLarge (Json g) h k = sym (json_one operation bytes g OutputTooLarge k h)
 fault_one operation bytes OutputTooLarge (Asset g) h k = sym (asset_fault_one operation bytes g OutputTooLarge k h)
 fault_one operation bytes OutputTooLarge (Stream view g) h k = sym (hindrance_one operation bytes (faulty_stream view g) OutputTooLarge k k h)
-fault_one operation bytes OutputTooLarge NotYet h k = sym (hindrance_one operation bytes unbuilt OutputTooLarge k k h)
 fault_one operation bytes OutputTooLarge OutputTooLarge h k = refl
 fault_one operation bytes OutputTooLarge Memory h k = absurd k
 fault_one operation bytes Memory other h k = absurd h

@@ -4,10 +4,10 @@ use Rattle.gp_json.specs.Fault.{HasFault as HasJsonFault}
 use Rattle.gp_glb.specs.Container.{Container}
 use Rattle.gp_glb.specs.Faults.{IsFirstFault as IsGlbFault, Reads}
 use Rattle.gp_asset.specs.declared.refusal.Refusal.{Refusal}
-use Rattle.gp_asset.specs.declared.refusal.Refusal.TheVariants.{Glb, Json, Asset, Stream, NotYet, OutputTooLarge, Memory}
+use Rattle.gp_asset.specs.declared.refusal.Refusal.TheVariants.{Glb, Json, Asset, Stream, OutputTooLarge, Memory}
 use Rattle.gp_document.specs.Document.{glb_of}
 use Rattle.gp_document.specs.Accepted.{IsAccepted, IsFaulty}
-use Rattle.gp_document.specs.Operation.{Made, Hindrance, unbuilt, faulty_stream, Operation}
+use Rattle.gp_document.specs.Operation.{Made, Hindrance, faulty_stream, Operation}
 
 -- nothing is made of the asset, and this is why
 pub record IsHindered (operation : Operation) (bytes : List ℕ) (hindrance : Hindrance) : Type 0 where
@@ -27,7 +27,6 @@ abbrev pub HasFault : Operation → List ℕ → Refusal → Type 0
 HasFault operation bytes (Glb fault) = IsGlbFault bytes fault
 HasFault operation bytes (Json fault) = (parts : Container) × Reads bytes (Ok parts) × HasJsonFault parts.json fault
 HasFault operation bytes (Asset fault) = IsFaulty operation.form bytes fault
-HasFault operation bytes NotYet = IsHindered operation bytes unbuilt
 HasFault operation bytes (Stream view fault) = IsHindered operation bytes (faulty_stream view fault)
 HasFault operation bytes OutputTooLarge = IsTooLarge operation bytes
 HasFault operation bytes Memory = ⊥

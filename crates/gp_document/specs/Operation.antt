@@ -1,5 +1,5 @@
 -- What an operation on a file makes of it: another file.
-use Rattle.std.specs.Prelude.{ℕ, Bool, true, false, Result, Err}
+use Rattle.std.specs.Prelude.{ℕ, Result}
 use Rattle.gp_groups.specs.declared.fault.StreamFault.{StreamFault}
 use Rattle.gp_asset.specs.declared.purpose.Form.{Form}
 use Rattle.gp_asset.specs.Asset.{AssetParts}
@@ -11,15 +11,9 @@ pub record Made : Type 0 where
   pub views : ℕ
   pub streams : ℕ
 
--- why nothing is made of an asset without a fault: it asks for more than is built, or the stream of a view has a fault
+-- why nothing is made of an asset without a fault: the stream of a view has a fault
 pub data Hindrance : Type 0 where
-  unbuilt : Hindrance
   faulty_stream : ℕ → StreamFault → Hindrance
-
--- nothing is made where more would be asked for than is built
-abbrev pub unless_unbuilt : Bool → Result Made Hindrance → Result Made Hindrance
-unless_unbuilt true made = Err unbuilt
-unless_unbuilt false made = made
 
 -- how the asset is read, and what is made of a document and its asset
 pub record Operation : Type 0 where

@@ -2,11 +2,11 @@
 use Rattle.std.specs.Prelude.{◌≡◌, ℕ, ◌≤◌, ◌^◌, List, length, Option, Result, Ok, Err, ⊤}
 use Rattle.gp_tree.specs.Plain.{PlainTree}
 use Rattle.gp_document.specs.Document.{glb_of}
-use Rattle.gp_document.specs.Operation.{Made, Hindrance, unbuilt, faulty_stream}
+use Rattle.gp_document.specs.Operation.{Made, Hindrance, faulty_stream}
 use Rattle.gp_document.specs.Answers.{IsOutput}
 use Rattle.gp_document.specs.declared.output.Output.{Output}
 use Rattle.gp_asset.specs.declared.refusal.Refusal.{Refusal}
-use Rattle.gp_asset.specs.declared.refusal.Refusal.TheVariants.{Stream, NotYet, OutputTooLarge, Memory}
+use Rattle.gp_asset.specs.declared.refusal.Refusal.TheVariants.{Stream, OutputTooLarge, Memory}
 
 -- a tree with the bytes of its buffer and other chunks, and the numbers of its views and streams
 abbrev pub made_of : PlainTree → Option (List ℕ) → List ℕ → ℕ → ℕ → Made
@@ -22,7 +22,6 @@ Writes made (Err _) = ⊥
 -- what is made is written, or there is a reason why nothing is
 abbrev pub Finishes : Result Made Hindrance → Result Output Refusal → Type 0
 Finishes (Ok made) answer = Writes made answer
-Finishes (Err unbuilt) (Err NotYet) = ⊤
 Finishes (Err (faulty_stream view fault)) (Err (Stream at other)) = (view ≡ at) × (fault ≡ other)
 Finishes (Err hindrance) (Err Memory) = ⊤
 Finishes (Err hindrance) _ = ⊥
