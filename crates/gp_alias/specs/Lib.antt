@@ -1,0 +1,12 @@
+pub mod Groups
+pub mod Classes
+pub mod Movable
+pub mod Survivors
+pub mod Records
+pub mod Plain
+pub mod Rooms
+pub mod Laws
+pub mod Forests
+pub mod Classing
+pub mod Holdings
+pub mod Users
