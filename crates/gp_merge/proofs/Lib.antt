@@ -1,0 +1,10 @@
+pub mod Repeats
+pub mod Cuts
+pub mod Sight
+pub mod Tables
+pub mod Keeping
+pub mod Placing
+pub mod Cycles
+pub mod Slots
+pub mod Numbering
+pub mod Examples

@@ -1,0 +1,9 @@
+pub mod Distinct
+pub mod Records
+pub mod Order
+pub mod Sight
+pub mod Placing
+pub mod Standing
+pub mod Remap
+pub mod Slots
+pub mod Laws
