@@ -1,0 +1,4 @@
+pub mod MovedParts
+pub mod Standing
+pub mod MadeBytes
+pub mod Laws
