@@ -1,0 +1,5 @@
+pub mod ChangedItems
+pub mod AppendedItems
+pub mod KeptItems
+pub mod MadeObjects
+pub mod FirstEntries
