@@ -1,5 +1,6 @@
 pub mod Bounds
 pub mod Parts
+pub mod Apart
 pub mod Rows
 pub mod Buffers
 mod Examples

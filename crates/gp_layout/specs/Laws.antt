@@ -1,5 +1,5 @@
 -- Laws of rows, over the definitions alone.
-use Rattle.std.specs.Prelude.{◌≡◌, ℕ, ◌+◌, ◌≤◌, ◌%◌, List, ◌++◌, map, length, take, drop, slice_get, Some}
+use Rattle.std.specs.Prelude.{◌≡◌, ℕ, ◌+◌, ◌<◌, ◌≤◌, ◌%◌, List, ◌++◌, map, length, take, drop, slice_get, Some}
 use Rattle.gp_layout.specs.Layout.{starts, end, laid}
 
 -- the row ends where its last part does
@@ -26,3 +26,9 @@ PartsAreWithin = (parts : List (List ℕ)) (i : ℕ) (part : List ℕ) (start : 
 -- each part begins at a multiple of 4
 abbrev pub StartsAreAligned : Type 0
 StartsAreAligned = (lengths : List ℕ) (i start : ℕ) → slice_get (starts lengths) i ≡ Some start → start % 4 ≡ 0
+
+-- no part begins before one in front of it ends
+abbrev pub PartsAreApart : Type 0
+PartsAreApart =
+    (parts : List (List ℕ)) (i j : ℕ) (part : List ℕ) (start later : ℕ) → i < j → Begins parts i part start
+    → slice_get (starts (map length parts)) j ≡ Some later → start + length part ≤ later

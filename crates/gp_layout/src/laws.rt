@@ -1,5 +1,5 @@
 //! Laws of rows, each the contract of a function that does nothing.
-ghost use Rattle.gp_layout.specs.Laws.{RowsEnd, PartsHaveStarts, PartsAreLaid, PartsAreWithin, StartsAreAligned};
+ghost use Rattle.gp_layout.specs.Laws.{RowsEnd, PartsHaveStarts, PartsAreLaid, PartsAreApart, PartsAreWithin, StartsAreAligned};
 
 /// A row is as long as the end of its last part.
 pub fn rows_end()
@@ -24,4 +24,9 @@ pub fn parts_are_within()
 /// Each part begins at a multiple of 4.
 pub fn starts_are_aligned()
     ensures { StartsAreAligned }
+{}
+
+/// No part begins before one in front of it ends.
+pub fn parts_are_apart()
+    ensures { PartsAreApart }
 {}

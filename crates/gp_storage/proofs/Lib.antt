@@ -4,5 +4,7 @@ pub mod Named
 pub mod ReadersSoFar
 pub mod Fronts
 pub mod Numbers
+pub mod Listed
+pub mod Codable
 pub mod EachView
 mod Examples

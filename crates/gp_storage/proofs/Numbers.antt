@@ -11,10 +11,10 @@ use Rattle.gp_storage.specs.Coding.{numbers_in}
 abbrev small : ℕ → Bool
 small n = nat_lt n (2 ^ 30)
 
-abbrev number_at : List ℕ → ℕ → ℕ → ℕ
+abbrev pub number_at : List ℕ → ℕ → ℕ → ℕ
 number_at bytes width i = number_of (part bytes (i * width) width)
 
-abbrev first_numbers : List ℕ → ℕ → ℕ → List ℕ
+abbrev pub first_numbers : List ℕ → ℕ → ℕ → List ℕ
 first_numbers bytes width n = map (number_at bytes width) (range_with_len 0 n)
 
 -- the first n numbers are small
@@ -25,7 +25,7 @@ pub none_yet : (bytes : List ℕ) (width : ℕ) → AreSmall bytes width 0
 unfolding AreSmall
 none_yet bytes width = refl
 
-slice_is : (bytes : List ℕ) (width at : ℕ) → take (at * width + width - at * width) (drop (at * width) bytes) ≡ part bytes (at * width) width
+pub slice_is : (bytes : List ℕ) (width at : ℕ) → take (at * width + width - at * width) (drop (at * width) bytes) ≡ part bytes (at * width) width
 slice_is bytes width at =
     let same : at * width + width - at * width ≡ width = omega arith in
     ap (λ n. take n (drop (at * width) bytes)) same

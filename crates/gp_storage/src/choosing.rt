@@ -1,15 +1,14 @@
 // Which stream a buffer view may be stored as.
-ghost use Rattle.std.specs.Prelude.{◌≡◌, ◌⊎◌, ◌^◌, nat_lt, length, IfSome, true};
+ghost use Rattle.std.specs.Prelude.{◌≡◌, ◌⊎◌, ◌^◌, nat_lt, IfSome, true};
 ghost use Rattle.std.specs.List.{list_all};
-ghost use Rattle.gp_elements.specs.Elements.{number_of};
 ghost use Rattle.gp_rules.specs.Views.{is_stride, is_stride_in};
 ghost use Rattle.gp_storage.specs.declared.coding.Coding.{Coding as CodingFields};
 ghost use Rattle.gp_storage.specs.Coding.{numbers_in, is_sequence, is_attributes};
 ghost use Rattle.gp_storage.specs.Shared.{sequence_by, attributes_by, coding_with};
 
 use crate::coding::Coding;
+use crate::listing::number;
 use crate::shared::Shared;
-use byteorder::{ByteOrder, LittleEndian};
 use gp_rules::{StreamMode, View};
 
 // Every number of an index sequence is below this one.
@@ -76,17 +75,6 @@ fn are_small(bytes: &[u8], width: usize) -> bool
         }
     }
     true
-}
-
-// The number in two or four bytes, the lowest first.
-fn number(bytes: &[u8]) -> u32
-    requires { (length bytes.now ≡ 2) ⊎ (length bytes.now ≡ 4) }
-    ensures { result ≡ number_of bytes.now }
-{
-    match bytes.len() {
-        2 => LittleEndian::read_u16(bytes) as u32,
-        _ => LittleEndian::read_u32(bytes),
-    }
 }
 
 // The size of the elements, where the view may be stored as attributes: its own stride, else the one size of all.

@@ -29,7 +29,7 @@ fn stored(alloc: Global, text: &[u8], moved: &[bool]) -> Result<StoredViews, Ref
         Err(refusal) => return Err(Refusal::from(refusal)),
     };
     if !are_plain(asset.views()) {
-        return Err(Refusal::NotYet);
+        return Err(Refusal::OutputTooLarge);
     }
     match store_views(alloc, &asset, moved) {
         Ok(stored) => Ok(stored),
