@@ -3,7 +3,7 @@ use Rattle.std.proofs.Common.{◌≡◌, ℕ, ◌+◌, ◌<◌, ◌≤◌, Resul
 use Rattle.std.proofs.lemmas.List.{drop_more, drop_all, get_or_default}
 use Rattle.gp_rules.specs.declared.storage.View.{View}
 use Rattle.gp_asset.specs.declared.refusal.Refusal.{Refusal}
-use Rattle.gp_asset.specs.declared.refusal.Refusal.TheVariants.{Glb, Json, Asset, Stream, NotYet, OutputTooLarge, Memory}
+use Rattle.gp_asset.specs.declared.refusal.Refusal.TheVariants.{Glb, Json, Asset, Stream, OutputTooLarge, Memory}
 use Rattle.gp_asset.specs.Asset.{AssetParts}
 use Rattle.gp_rules.specs.Checks.{joined}
 use Rattle.gp_rules.proofs.Each.{behind, behind_none, behind_one}
@@ -28,7 +28,7 @@ at_one a done k v one within is e =
     ∙ ap (λ r. behind done (joined r (contents_from a (k + 1) (drop (k + 1) a.views)))) e
 
 -- past a view without a fault
-next : (a : AssetParts) (done longer : List (List ℕ)) (k : ℕ) (v : View) (y : List ℕ)
+pub next : (a : AssetParts) (done longer : List (List ℕ)) (k : ℕ) (v : View) (y : List ℕ)
     → k < length a.views → v ≡ get_or a.views k v → at_view k (contents_of a v) ≡ Ok y → longer ≡ done ++ y ∷ []
     → all_contents a ≡ with_rest a done k → all_contents a ≡ with_rest a longer (k + 1)
 next a done longer k v y within is e more so_far =
@@ -52,7 +52,6 @@ stop a done k v Memory within is e so_far = tt
 stop a done k v (Glb fault) within is e so_far = e
 stop a done k v (Json fault) within is e so_far = e
 stop a done k v (Asset fault) within is e so_far = e
-stop a done k v NotYet within is e so_far = e
 stop a done k v OutputTooLarge within is e so_far = e
 
 -- past the last view

@@ -20,11 +20,12 @@ use Rattle.gp_edits.proofs.PlainBack.{one_again, none_again}
 use Rattle.gp_document.specs.Document.{Document, glb_of}
 use Rattle.gp_document.specs.Accepted.{IsAccepted, asset_of}
 use Rattle.gp_document.specs.Operation.{Made, Hindrance}
-use Rattle.gp_document.proofs.Finishing.{was_built}
+use Rattle.gp_document.specs.Answers.{IsMade}
+use Rattle.gp_document.specs.declared.output.Output.{Output}
 use Rattle.gp_document.proofs.Written.{holds_written}
 use Rattle.gp_unpack.specs.Contents.{FaultyView, all_contents}
 use Rattle.gp_layout.specs.Row.{laid_buffer, buffer_length}
-use Rattle.gp_unpack.specs.Unpacked.{unpacked_tree, unpacked, has_unbuilt, former_streams, made_of, made_with, unpacked_or}
+use Rattle.gp_unpack.specs.Unpacked.{unpacked_tree, unpacked, former_streams, made_of, made_with, unpacked_or, unpacking}
 use Rattle.gp_unpack.specs.Kept.{KeepsViews}
 use Rattle.gp_unpack.specs.Laws.{UnpackedKeepsViews}
 use Rattle.gp_unpack.specs.PlainFields.{laid_fields, viewless_fields}
@@ -33,6 +34,7 @@ use Rattle.gp_unpack.proofs.SoundTree.{unpacked_sound, unpacked_uses_no_more}
 use Rattle.gp_unpack.proofs.Drawn.{asset_holds, rules_hold}
 use Rattle.gp_unpack.proofs.Whole.{contents_are_whole}
 use Rattle.gp_unpack.proofs.Again.{sizes, lengths_kept}
+use Rattle.gp_unpack.proofs.KeptParts.{KeepsParts, laid_keeps, viewless_keeps}
 use Rattle.gp_unpack.proofs.Plain.{contents_laid_plain, viewless_stays_so}
 
 -- ---- what was made
@@ -51,7 +53,7 @@ made_so d a m (Err faulty) is e = absurd (cc)
 
 is_unpacked : (d : Document) (a : AssetParts) (m : Made) → unpacked_or d a ≡ Ok m → IsUnpacked d a m
 unfolding unpacked_or
-is_unpacked d a m e = made_so d a m (all_contents a) refl (was_built (has_unbuilt a) (made_with d a (all_contents a)) m e)
+is_unpacked d a m e = made_so d a m (all_contents a) refl e
 
 -- ---- how long it is
 
@@ -64,11 +66,12 @@ bin_fits d (bytes ∷ contents) m h some =
 
 -- ---- the asset that it stands for
 
--- an asset with these contents, of a tree and a BIN chunk
-record Reads (t : PlainTree) (bin : Option (List ℕ)) (contents : List (List ℕ)) : Type 0 where
+-- an asset with these contents, of a tree and a BIN chunk, with all the parts of another one that unpacking keeps
+record Reads (a : AssetParts) (t : PlainTree) (bin : Option (List ℕ)) (contents : List (List ℕ)) : Type 0 where
   pub parts : AssetParts
   pub is : asset Any t bin ≡ Ok parts
   pub read : all_contents parts ≡ Ok contents
+  pub kept : KeepsParts a parts
 
 -- the views have the lengths that their fields say
 said_lengths : (t : PlainTree) (bin : Option (List ℕ)) (a : AssetParts) (f : AssetFields) → asset Any t bin ≡ Ok a → asset_fields t ≡ Ok f
@@ -100,8 +103,11 @@ uses : (t : PlainTree) (bin : Option (List ℕ)) (a : AssetParts) (contents : Li
     → supported Any (extensions_in_use (unpacked_tree contents t)) ≡ Ok (extensions_in_use (unpacked_tree contents t))
 uses t bin a contents sound e = asset_holds Any t bin a e (λ fields used r h all. (unpacked_uses_no_more contents t sound.distinct).supported used h.supports)
 
+no_views : (a : AssetParts) → [] ≡ map (λ (v : View). v.length) a.views → a.views ≡ []
+no_views a e = none_of a.views (sym (length-map a.views (λ (v : View). v.length)) ∙ sym (ap length e))
+
 -- without a view
-reads_none : (t : PlainTree) (bin : Option (List ℕ)) (a : AssetParts) → IsSound t → asset Any t bin ≡ Ok a → all_contents a ≡ Ok [] → Reads (unpacked_tree [] t) None []
+reads_none : (t : PlainTree) (bin : Option (List ℕ)) (a : AssetParts) → IsSound t → asset Any t bin ≡ Ok a → all_contents a ≡ Ok [] → Reads a (unpacked_tree [] t) None []
 unfolding unpacked_tree buffer_length
 reads_none t bin a sound e is =
     let law = viewless_stays_so t bin a [] e is in
@@ -111,12 +117,12 @@ reads_none t bin a sound e is =
     let u = unpacked_tree [] t in
     let g = none_again [] t f sound.distinct law.1 none count in
     let b = law.2 u (viewless_fields f) (extensions_in_use u) none g refl (uses t bin a [] sound e) in
-    record { parts = b.0; is = b.1; read = b.2 }
+    record { parts = b.0; is = b.1; read = b.2; kept = subst (KeepsParts a) (sym b.3) (viewless_keeps (extensions_in_use u) a (no_views a (contents_are_whole Any t bin a [] e is))) }
 
 -- with views
 reads_some : (t : PlainTree) (bin : Option (List ℕ)) (a : AssetParts) (bytes : List ℕ) (others : List (List ℕ)) (more : List ℕ) → IsSound t → asset Any t bin ≡ Ok a
     → all_contents a ≡ Ok (bytes ∷ others) → end (map length (bytes ∷ others)) < 2 ^ 32
-    → Reads (unpacked_tree (bytes ∷ others) t) (Some (laid (bytes ∷ others) ++ more)) (bytes ∷ others)
+    → Reads a (unpacked_tree (bytes ∷ others) t) (Some (laid (bytes ∷ others) ++ more)) (bytes ∷ others)
 unfolding unpacked_tree buffer_length
 reads_some t bin a bytes others more sound e is fits =
     let contents = bytes ∷ others in
@@ -126,18 +132,22 @@ reads_some t bin a bytes others more sound e is fits =
     let u = unpacked_tree contents t in
     let g = one_again (end (map length contents)) (starts (map length contents)) t f sound.distinct law.1 fits (starts_counted contents f count) (starts_below (2 ^ 32) 0 (map length contents) fits) in
     let b = law.2 u (laid_fields contents f) (extensions_in_use u) more (some_of f.views (length others) (sym count)) g refl (uses t bin a contents sound e) in
-    record { parts = b.0; is = b.1; read = b.2 }
+    record { parts = b.0; is = b.1; read = b.2; kept = subst (KeepsParts a) (sym b.3) (laid_keeps contents more (extensions_in_use u) a (contents_are_whole Any t bin a contents e is)) }
 
 reads_again : (t : PlainTree) (bin : Option (List ℕ)) (a : AssetParts) (contents : List (List ℕ)) → IsSound t → asset Any t bin ≡ Ok a → all_contents a ≡ Ok contents
-    → end (map length contents) < 2 ^ 32 → Reads (unpacked_tree contents t) (option_map (padded 0) (laid_buffer contents)) contents
+    → end (map length contents) < 2 ^ 32 → Reads a (unpacked_tree contents t) (option_map (padded 0) (laid_buffer contents)) contents
 unfolding laid_buffer padded
 reads_again t bin a [] sound e is fits = reads_none t bin a sound e is
 reads_again t bin a (bytes ∷ others) sound e is fits = reads_some t bin a bytes others (replicate (missing (length (laid (bytes ∷ others)))) 0) sound e is fits
 
 -- ---- the law
 
+-- all views are kept, and so are the parts of the asset
+abbrev pub KeepsAsset : List ℕ → List ℕ → Type 0
+KeepsAsset before after = (kept : KeepsViews before after) × KeepsParts kept.input.asset kept.output.asset
+
 keeps : (bytes : List ℕ) (accepted : IsAccepted Any bytes) (contents : List (List ℕ)) → all_contents accepted.asset ≡ Ok contents
-    → length (glb_of (unpacked contents accepted.document)) < 2 ^ 32 → KeepsViews bytes (glb_of (unpacked contents accepted.document))
+    → length (glb_of (unpacked contents accepted.document)) < 2 ^ 32 → KeepsAsset bytes (glb_of (unpacked contents accepted.document))
 unfolding unpacked asset_of
 keeps bytes accepted contents is fits =
     let d = accepted.document in
@@ -145,6 +155,7 @@ keeps bytes accepted contents is fits =
     let n = bin_fits d contents (2 ^ 32) fits (omega arith) in
     let sound = unpacked_sound contents d.tree (omega (arith, n)) holds.sound in
     let again = reads_again d.tree d.bin accepted.asset contents holds.sound accepted.is_asset is n in
+    let kept : KeepsViews bytes (glb_of (unpacked contents d)) =
     record {
       input = accepted;
       output = record {
@@ -159,9 +170,13 @@ keeps bytes accepted contents is fits =
       rest = refl;
       trees = common_kept contents d.tree holds.sound;
     }
+    in (kept, again.kept)
 
-pub unpacked_keeps_views : UnpackedKeepsViews
-unpacked_keeps_views bytes out h =
+pub unpacked_keeps_asset : (bytes : List ℕ) (out : Output) → IsMade unpacking bytes out → KeepsAsset bytes out.glb
+unpacked_keeps_asset bytes out h =
     let made = is_unpacked h.accepted.document h.accepted.asset h.made h.is_made in
     let same : glb_of h.made.document ≡ glb_of (unpacked made.contents h.accepted.document) = ap glb_of made.document in
-    subst (KeepsViews bytes) (sym (h.output.glb ∙ same)) (keeps bytes h.accepted made.contents made.read (subst (λ bs. length bs < 2 ^ 32) same h.output.fits))
+    subst (KeepsAsset bytes) (sym (h.output.glb ∙ same)) (keeps bytes h.accepted made.contents made.read (subst (λ bs. length bs < 2 ^ 32) same h.output.fits))
+
+pub unpacked_keeps_views : UnpackedKeepsViews
+unpacked_keeps_views bytes out h = (unpacked_keeps_asset bytes out h).0

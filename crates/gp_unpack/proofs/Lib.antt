@@ -6,10 +6,14 @@ pub mod Lengths
 pub mod Drawn
 pub mod Whole
 pub mod Places
+pub mod Parts
+pub mod Filling
+pub mod Standing
 pub mod Again
 pub mod Plain
 pub mod CommonTree
 pub mod SoundTree
+pub mod KeptParts
 pub mod Keeping
 pub mod Changes
 pub mod Finishing

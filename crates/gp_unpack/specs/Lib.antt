@@ -1,4 +1,5 @@
 pub mod Contents
+pub mod Laid
 pub mod PlainFields
 pub mod Unpacked
 pub mod Kept

@@ -1,12 +1,14 @@
 // Decoding the buffer views of an asset.
-ghost use Rattle.std.specs.Prelude.{◌≡◌, ◌*◌, length, slice_get, Some, IfSome, Ok};
+ghost use Rattle.std.specs.Prelude.{◌≡◌, ◌*◌, length, replicate, slice_get, Some, IfOk, IfSome};
 ghost use Rattle.gp_groups.specs.Steps.{filled};
-ghost use Rattle.gp_unpack.specs.Contents.{decoded, contents_of, at_view, all_contents, HasShape, HaveShapes, Answers};
+ghost use Rattle.gp_unpack.specs.Contents.{decoded, contents_of, all_contents, HasShape, HaveShapes, Answers};
+ghost use Rattle.gp_unpack.specs.Laid.{ArePlaced, Fills, content_length, content_lengths};
 
 use crate::contents::Contents;
+use crate::laying::{Place, place_views};
 use gp_asset::{Asset, Refusal, ViewBytes};
 use gp_groups::StreamFault;
-use gp_host::Bytes;
+use gp_host::NoMemory;
 use gp_index::decode_triangles;
 use gp_rules::{Packed, StreamMode, View};
 use gp_sequence::decode_sequence;
@@ -19,51 +21,56 @@ pub fn decode_views(alloc: Global, asset: &Asset<'_>) -> Result<Contents, Refusa
     requires { HaveShapes asset.now.views }
     ensures { Answers (all_contents asset.now) result }
 {
-    let mut decoded = Vec::new(alloc);
+    let places = place_views(alloc, asset)?;
+    let mut buffer = zeros(alloc, places.end)?;
+    decode_all(asset, &places.parts, &mut buffer)?;
+    Ok(Contents::from_parts(buffer, places.parts))
+}
+
+// So many zeros.
+fn zeros(alloc: Global, count: usize) -> Result<Vec<u8>, NoMemory>
+    ensures { IfOk result (λ zeros. zeros.items ≡ replicate count 0) }
+{
+    Ok(vec![in alloc; 0; count]?)
+}
+
+// Fills the parts of a buffer of zeros with the views that they are for.
+fn decode_all(asset: &Asset<'_>, parts: &[Place], buffer: &mut [u8]) -> Result<(), Refusal>
+    requires shapes { HaveShapes asset.now.views }
+    requires places { ArePlaced (content_lengths asset.now) parts.now (length buffer.old) }
+    requires zeros { buffer.old ≡ replicate (length buffer.old) 0 }
+    ensures { Fills (all_contents asset.now) parts.now result buffer.new }
+{
     let views = asset.views();
     'views: for at in 0..views.len() {
-        let bytes = decode_view(alloc, asset, &views[at], at)?;
-        if decoded.push(bytes).is_err() {
-            return Err(Refusal::Memory);
+        let part = parts[at];
+        let dest = &mut buffer[part.start..part.start + part.length];
+        match decode_view(asset, &views[at], at, dest) {
+            Ok(()) => {}
+            Err(fault) => return Err(Refusal::Stream { view: at, fault }),
         }
     }
-    Ok(Contents::from_vec(decoded))
+    Ok(())
 }
 
-// The bytes of view `at`.
-fn decode_view(alloc: Global, asset: &Asset<'_>, view: &View, at: usize) -> Result<Bytes, Refusal>
+// Fills the slice with the contents of view `at`.
+fn decode_view(
+    asset: &Asset<'_>,
+    view: &View,
+    at: usize,
+    dest: &mut [u8],
+) -> Result<(), StreamFault>
     requires place { slice_get asset.now.views at ≡ Some view.now }
     requires shape { IfSome view.now.packed HasShape }
-    ensures { Answers (at_view at (contents_of asset.now view.now)) result }
+    requires room { length dest.old ≡ content_length asset.now view.now }
+    ensures { contents_of asset.now view.now ≡ filled result dest.new }
 {
     match view.packed {
-        None => copy(alloc, asset.view(at)),
-        Some(packed) => decode_packed(alloc, asset.packed_bytes(at), packed, at),
-    }
-}
-
-// The bytes of a slice.
-fn copy(alloc: Global, bytes: &[u8]) -> Result<Bytes, Refusal>
-    ensures { Answers (Ok bytes.now) result }
-{
-    match Vec::from_slice(alloc, bytes) {
-        Ok(copied) => Ok(Bytes::from_vec(copied)),
-        Err(_) => Err(Refusal::Memory),
-    }
-}
-
-// The elements that the stream of view `at` holds.
-fn decode_packed(alloc: Global, stream: &[u8], packed: Packed, at: usize) -> Result<Bytes, Refusal>
-    requires { HasShape packed }
-    ensures { Answers (at_view at (decoded packed.mode stream.now packed.count packed.stride)) result }
-{
-    let length = packed.count as usize * packed.stride as usize;
-    let Ok(mut dest) = vec![in alloc; 0; length] else {
-        return Err(Refusal::Memory);
-    };
-    match decode_stream(stream, packed, &mut dest) {
-        Ok(()) => Ok(Bytes::from_vec(dest)),
-        Err(fault) => Err(Refusal::Stream { view: at, fault }),
+        None => {
+            dest.copy_from_slice(asset.view(at));
+            Ok(())
+        }
+        Some(packed) => decode_stream(asset.packed_bytes(at), packed, dest),
     }
 }
 

@@ -4,14 +4,16 @@
 //! fault. [`decode_views`] gives the bytes of every view of an asset, or the first view whose stream has a fault. [`laws`]
 //! says what unpacking keeps.
 //!
-//! - `contents`: the bytes of all views, as [`gp_asset::ViewBytes`]. - `decoding`: one stream, one view, all views. -
-//!   `unpacking`: the call. - `editing`: the JSON. - `laws`: what the definitions promise.
+//! - `contents`: the bytes of all views in one buffer, as [`gp_asset::ViewBytes`]. - `laying`: the part of the buffer for
+//!   each view. - `decoding`: one stream, one view, all views. - `unpacking`: the call. - `editing`: the JSON. - `laws`:
+//!   what the definitions promise.
 #![tactic(auto)]
 
 mod contents;
 mod decoding;
 mod editing;
 pub mod laws;
+mod laying;
 #[cfg(test)]
 mod tests;
 mod unpacking;

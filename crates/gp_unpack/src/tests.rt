@@ -32,6 +32,14 @@ fn views_are_decoded(rt: HostRuntime) -> Result<(), Fail> {
             b"\0\0\0\0\x01\0\0\0\x02\0\0\0".as_slice()
         );
     }
+    assert_eq!(rt;
+        contents.buffer(),
+        b"abc\0\0\0\0\0\x01\0\0\0\x02\0\0\0".as_slice()
+    );
+    assert!(rt; contents.len() == 2);
+    assert_eq!(rt; contents.start(1), 4);
+    let buffer = contents.into_buffer();
+    assert_eq!(rt; buffer.len(), 16);
     Ok(())
 }
 

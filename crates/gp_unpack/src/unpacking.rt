@@ -1,19 +1,19 @@
 // Unpacking.
-ghost use Rattle.std.specs.Prelude.{◌≡◌, ◌<◌, ◌^◌, length};
+ghost use Rattle.std.specs.Prelude.{◌≡◌, ℕ, ◌<◌, ◌^◌, List, length, option_map};
 ghost use Rattle.gp_glb.specs.Container.{AreWholeChunks};
+ghost use Rattle.gp_layout.specs.Layout.{laid};
+ghost use Rattle.gp_layout.specs.Row.{laid_buffer};
 ghost use Rattle.gp_document.specs.Answers.{AnswersOrMemory, IsOnlyAnswer};
 ghost use Rattle.gp_document.specs.Reading.{document_of};
 ghost use Rattle.gp_document.specs.Writing.{Writes, Finishes};
 ghost use Rattle.gp_unpack.specs.Contents.{HaveShapes};
-ghost use Rattle.gp_unpack.specs.Unpacked.{has_unbuilt, holds_indices, former_streams, unpacked_or, unpacking, made_of};
+ghost use Rattle.gp_unpack.specs.Unpacked.{former_streams, unpacked_or, unpacking, made_of};
 
 use crate::contents::Contents;
 use crate::decoding::decode_views;
 use crate::editing::edit_tree;
 use gp_asset::{Asset, Form, Refusal};
 use gp_document::{Accepted, Document, Output, accept, write_document};
-use gp_layout::lay;
-use gp_rules::{Packed, StreamMode};
 use std::alloc::Global;
 
 /// Unpacks a GLB or a glTF text (glTF 2.0 and EXT_meshopt_compression): the GLB whose views are all plain, or the input's
@@ -36,35 +36,11 @@ fn unpack_accepted(alloc: Global, accepted: Accepted<'_>) -> Result<Output, Refu
     ensures { Finishes (unpacked_or (document_of accepted.entry.document) accepted.entry.asset) result }
 {
     let Accepted { document, asset } = accepted;
-    if has_unbuilt(&asset) {
-        return Err(Refusal::NotYet);
-    }
     let views = asset.views().len() as u32;
     let streams = former_streams(&asset);
     match decode_views(alloc, &asset) {
         Ok(contents) => write_unpacked(alloc, document, contents, views, streams),
         Err(refusal) => Err(refusal),
-    }
-}
-
-// Whether some view holds a stream of triangles or of an index sequence.
-#[tactic(auto, unfolding(crate::specs::Unpacked::has_unbuilt))]
-fn has_unbuilt(asset: &Asset<'_>) -> bool
-    ensures { result ≡ has_unbuilt asset.now }
-{
-    asset.views().iter().any(|view| holds_indices(view.packed))
-}
-
-// Whether a compressed form holds triangles or an index sequence.
-fn holds_indices(packed: Option<Packed>) -> bool
-    ensures { result ≡ holds_indices packed }
-{
-    match packed {
-        Some(packed) => match packed.mode {
-            StreamMode::Attributes => false,
-            StreamMode::Triangles | StreamMode::Indices => true,
-        },
-        None => false,
     }
 }
 
@@ -92,11 +68,26 @@ fn write_unpacked(
     requires { AreWholeChunks document.rest.now }
     ensures { Writes (made_of contents (document_of document.entry) views streams) result }
 {
-    let count = contents.len();
-    let row = lay(alloc, &contents, count)?;
-    // The contents stand in the row.
-    drop(contents);
     let mut tree = document.tree;
-    edit_tree(alloc, &mut tree, &row)?;
-    write_document(alloc, tree, row.buffer(), document.rest, views, streams)
+    edit_tree(alloc, &mut tree, &contents)?;
+    let count = contents.len();
+    let buffer = contents.into_buffer();
+    write_document(
+        alloc,
+        tree,
+        bin_of(&buffer, count),
+        document.rest,
+        views,
+        streams,
+    )
+}
+
+// The BIN chunk of a buffer of so many views; none where there are no views.
+fn bin_of(buffer: &[u8], views: usize) -> Option<&[u8]>
+    ensures { (contents : List (List ℕ)) → views ≡ length contents → buffer.now ≡ laid contents → option_map (λ b. b.now) result ≡ laid_buffer contents }
+{
+    if views == 0 {
+        return None;
+    }
+    Some(buffer)
 }
