@@ -8,7 +8,7 @@ use Rattle.gp_asset.specs.declared.refusal.Refusal.TheVariants.{Glb, Json}
 use Rattle.gp_app.specs.Words.{command}
 use Rattle.gp_app.specs.Lines.{done_line, packed_line, line_of_refusal}
 use Rattle.gp_app.specs.Status.{exit_code}
-use Rattle.gp_app.specs.declared.commands.Command.TheVariants.{Pack, Unpack}
+use Rattle.gp_app.specs.declared.commands.Command.TheVariants.{Pack, Unpack, Analyse, Sample}
 use Rattle.gp_app.specs.declared.status.Status.TheVariants.{Done, Memory}
 
 pack_is_a_command : command (codes "pack" ∷ []) ≡ Some Pack
@@ -18,6 +18,10 @@ pack_is_a_command = refl
 unpack_is_a_command : command (codes "unpack" ∷ []) ≡ Some Unpack
 unfolding command
 unpack_is_a_command = refl
+
+analyse_is_a_command : command (codes "analyse" ∷ []) ≡ Some Analyse
+unfolding command
+analyse_is_a_command = refl
 
 no_words_are_none : command [] ≡ None
 unfolding command
@@ -30,6 +34,34 @@ more_words_are_none = refl
 other_words_are_none : command (codes "Pack" ∷ []) ≡ None
 unfolding command
 other_words_are_none = refl
+
+no_analysis_of_a_name : command (codes "analyse" ∷ codes "x" ∷ []) ≡ None
+unfolding command
+no_analysis_of_a_name = refl
+
+a_sample_is_a_command : command (codes "sample" ∷ codes "12" ∷ []) ≡ Some (Sample 12)
+unfolding command
+a_sample_is_a_command = refl
+
+the_largest_sample : command (codes "sample" ∷ codes "512" ∷ []) ≡ Some (Sample 512)
+unfolding command
+the_largest_sample = refl
+
+no_larger_sample : command (codes "sample" ∷ codes "513" ∷ []) ≡ None
+unfolding command
+no_larger_sample = refl
+
+no_empty_sample : command (codes "sample" ∷ codes "0" ∷ []) ≡ None
+unfolding command
+no_empty_sample = refl
+
+no_leading_zero : command (codes "sample" ∷ codes "01" ∷ []) ≡ None
+unfolding command
+no_leading_zero = refl
+
+no_sample_without_a_size : command (codes "sample" ∷ []) ≡ None
+unfolding command
+no_sample_without_a_size = refl
 
 -- 72 bytes of output for 76 bytes of input
 packed_done : packed_line (record { glb = replicate 72 0; views = 0; packed = 0 }) 76 ≡ codes "packed views 0 of 0 in 76 out 72\n"

@@ -1,17 +1,20 @@
 -- The headline of packing: whatever bytes the source gives, where memory is found and no count of faults rises, the run reports
--- their first fault and writes nothing, or it writes a file that is the same asset. And what unpacking keeps.
-use Rattle.std.specs.Prelude.{◌≡◌, ◌≢◌, ◌⊎◌, ℕ, ◌<◌, ◌≤◌, ◌^◌, List, length, Some}
+-- their first fault and writes nothing, or it writes a file that is the same asset. What unpacking keeps. And what an analysis writes.
+use Rattle.std.specs.Prelude.{◌≡◌, ◌≢◌, ◌⊎◌, ℕ, ◌<◌, ◌≤◌, ◌^◌, ⊤, List, length, Some}
 use Rattle.gp_document.specs.Faults.{HasFault}
 use Rattle.gp_pack.specs.Packed.{packing}
 use Rattle.gp_pack.specs.Same.{Same}
 use Rattle.gp_unpack.specs.Kept.{KeepsViews}
+use Rattle.gp_analyse.specs.Reports.{IsReport}
 use Rattle.gp_asset.specs.declared.refusal.Refusal.{Refusal}
 use Rattle.gp_app.specs.Words.{command}
 use Rattle.gp_app.specs.Lines.{too_large_line, line_of_refusal}
 use Rattle.gp_app.specs.Moment.{Moment, NoneRose}
 use Rattle.gp_app.specs.Input.{ReadToEnd}
+use Rattle.gp_app.specs.Work.{Takes, HasInput}
 use Rattle.gp_app.specs.Written.{WroteAll}
-use Rattle.gp_app.specs.declared.commands.Command.TheVariants.{Pack, Unpack}
+use Rattle.gp_app.specs.declared.commands.Command.{Command}
+use Rattle.gp_app.specs.declared.commands.Command.TheVariants.{Unpack, Analyse}
 use Rattle.gp_app.specs.declared.status.Status.{Status}
 use Rattle.gp_app.specs.declared.status.Status.TheVariants.{Done, Refused, Memory}
 
@@ -29,20 +32,26 @@ pub record ReportsFault (bytes : List ℕ) (before after : Moment) (status : Sta
   pub told : WroteAll before.report after.report line
   pub untouched : after.output ≡ before.output
 
--- all bytes were read, and what was written is the same asset
-pub record WritesSame (bytes : List ℕ) (before after : Moment) : Type 0 where
-  pub read : ReadToEnd before.input after.input bytes
+-- the whole input was taken, and what was written is the same asset
+pub record WritesSame (asked : Command) (bytes : List ℕ) (before after : Moment) : Type 0 where
+  pub taken : Takes asked before.input after.input bytes
   pub glb : List ℕ
   pub written : WroteAll before.output after.output glb
   pub same : Same bytes glb
 
+-- the command packs its input
+abbrev pub IsPacking : Command → Type 0
+IsPacking Unpack = ⊥
+IsPacking Analyse = ⊥
+IsPacking _ = ⊤
+
 -- where packing is done, the same asset was written
 abbrev pub KeepsAsset : List (List ℕ) → Moment → Moment → Status → Type 0
-KeepsAsset words before after status = command words ≡ Some Pack → status ≡ Done → (bytes : List ℕ) × WritesSame bytes before after
+KeepsAsset words before after status = (asked : Command) → command words ≡ Some asked → IsPacking asked → status ≡ Done → (bytes : List ℕ) × WritesSame asked bytes before after
 
 abbrev pub Headline : List (List ℕ) → Moment → Moment → Status → Type 0
-Headline words before after status = (bytes : List ℕ) → command words ≡ Some Pack → before.input.left ≡ Some bytes → NoneRose before after → status ≢ Memory
-    → ReportsFault bytes before after status ⊎ ((status ≡ Done) × WritesSame bytes before after)
+Headline words before after status = (asked : Command) (bytes : List ℕ) → command words ≡ Some asked → IsPacking asked → HasInput asked before.input.left bytes → NoneRose before after → status ≢ Memory
+    → ReportsFault bytes before after status ⊎ ((status ≡ Done) × WritesSame asked bytes before after)
 
 -- ---- unpacking
 
@@ -56,3 +65,17 @@ pub record WritesKept (bytes : List ℕ) (before after : Moment) : Type 0 where
 -- where unpacking is done, an asset whose views have the same contents was written
 abbrev pub KeepsContents : List (List ℕ) → Moment → Moment → Status → Type 0
 KeepsContents words before after status = command words ≡ Some Unpack → status ≡ Done → (bytes : List ℕ) × WritesKept bytes before after
+
+-- ---- analysing
+
+-- all bytes were read, exactly the text of their analysis was written, and the report is as it was
+pub record WritesText (bytes : List ℕ) (before after : Moment) : Type 0 where
+  pub read : ReadToEnd before.input after.input bytes
+  pub text : List ℕ
+  pub is_text : IsReport bytes text
+  pub written : WroteAll before.output after.output text
+  pub silent : after.report ≡ before.report
+
+-- where an analysis is done, it was written so
+abbrev pub TellsText : List (List ℕ) → Moment → Moment → Status → Type 0
+TellsText words before after status = command words ≡ Some Analyse → status ≡ Done → (bytes : List ℕ) × WritesText bytes before after

@@ -1,5 +1,5 @@
 -- What each command takes, refuses and makes.
-use Rattle.std.specs.Prelude.{◌≡◌, ℕ, List, length, Some}
+use Rattle.std.specs.Prelude.{◌≡◌, ℕ, ◌≤◌, ⊤, List, length, None, Some}
 use Rattle.std.specs.declared.option.Option.{Option}
 use Rattle.gp_host.specs.Source.{SourceAt}
 use Rattle.gp_document.specs.Operation.{Operation}
@@ -9,43 +9,62 @@ use Rattle.gp_document.specs.declared.output.Output.{Output}
 use Rattle.gp_pack.specs.Packed.{packing}
 use Rattle.gp_pack.specs.StoredParts.{AreBytes}
 use Rattle.gp_unpack.specs.Unpacked.{unpacking}
+use Rattle.gp_analyse.specs.Reports.{IsReport, HasFault as HasAnalysisFault}
+use Rattle.gp_sample.specs.Sample.{sample}
 use Rattle.gp_asset.specs.declared.refusal.Refusal.{Refusal}
 use Rattle.gp_app.specs.Lines.{packed_line, unpacked_line}
-use Rattle.gp_app.specs.Input.{ReadToEnd}
+use Rattle.gp_app.specs.Input.{ReadToEnd, ReadPart}
 use Rattle.gp_app.specs.declared.commands.Command.{Command}
-use Rattle.gp_app.specs.declared.commands.Command.TheVariants.{Pack, Unpack}
+use Rattle.gp_app.specs.declared.commands.Command.TheVariants.{Pack, Unpack, Analyse, Sample}
 
--- these bytes are the input of the command: all that the source had left
+-- a sample has a size from 1 to 512
+abbrev pub HasSize : Command → Type 0
+HasSize (Sample n) = (1 ≤ n) × (n ≤ 512)
+HasSize _ = ⊤
+
+-- the command reads its source
+abbrev pub IsReading : Command → Type 0
+IsReading (Sample n) = ⊥
+IsReading _ = ⊤
+
+-- these bytes are the input of the command: the sample, and nothing was read; or all that the source had left
 abbrev pub Takes : Command → SourceAt → SourceAt → List ℕ → Type 0
-Takes asked before after bytes = ReadToEnd before after bytes
+Takes (Sample n) before after bytes = (after ≡ before) × (bytes ≡ sample n)
+Takes _ before after bytes = ReadToEnd before after bytes
 
--- the input of the command, where the source has these bytes left
-abbrev pub input_of : Command → List ℕ → List ℕ
-input_of asked left = left
+-- what was read where there was no memory: nothing for a sample, else a part of what the source had left
+abbrev pub Waits : Command → SourceAt → SourceAt → Type 0
+Waits (Sample n) before after = after ≡ before
+Waits _ before after = ReadPart before after
 
--- what the command does with a file
-abbrev pub operation_of : Command → Operation
-operation_of Pack = packing
-operation_of Unpack = unpacking
-
--- the line of Done
-abbrev pub line_of : Command → Output → ℕ → List ℕ
-line_of Pack = packed_line
-line_of Unpack = unpacked_line
+-- these bytes are the input of the command, where the source tells this of its bytes
+abbrev pub HasInput : Command → Option (List ℕ) → List ℕ → Type 0
+HasInput (Sample n) left bytes = bytes ≡ sample n
+HasInput _ left bytes = left ≡ Some bytes
 
 -- the input has this first fault
 unfoldable pub Refuses : Command → List ℕ → Refusal → Type 0
-Refuses asked bytes refusal = HasFault (operation_of asked) bytes refusal
+Refuses Pack bytes refusal = HasFault packing bytes refusal
+Refuses Unpack bytes refusal = HasFault unpacking bytes refusal
+Refuses Analyse bytes refusal = HasAnalysisFault bytes refusal
+Refuses (Sample n) bytes refusal = HasFault packing bytes refusal
 
 -- what is written for an input without a fault, and the line of Done, where there is one
 pub record Made : Type 0 where
   pub out : List ℕ
   pub line : Option (List ℕ)
 
--- the container that was made, and its line
-abbrev pub made_of : Command → Output → ℕ → Made
-made_of asked out taken = record { out = out.glb; line = Some (line_of asked out taken) }
+-- the container that an operation makes of an input, which is bytes, and its line
+abbrev pub MakesFile : Operation → (Output → ℕ → List ℕ) → List ℕ → Made → Type 0
+MakesFile operation line bytes made =
+    (out : Output) × AreBytes bytes × IsMade operation bytes out × (made ≡ record { out = out.glb; line = Some (line out (length bytes)) })
 
--- of an input, which is bytes
+-- the text of the analysis of an input, and no line
+abbrev pub MakesText : List ℕ → Made → Type 0
+MakesText bytes made = (text : List ℕ) × IsReport bytes text × (made ≡ record { out = text; line = None })
+
 unfoldable pub Makes : Command → List ℕ → Made → Type 0
-Makes asked bytes made = (out : Output) × AreBytes bytes × IsMade (operation_of asked) bytes out × (made ≡ made_of asked out (length bytes))
+Makes Pack bytes made = MakesFile packing packed_line bytes made
+Makes Unpack bytes made = MakesFile unpacking unpacked_line bytes made
+Makes Analyse bytes made = MakesText bytes made
+Makes (Sample n) bytes made = MakesFile packing packed_line bytes made

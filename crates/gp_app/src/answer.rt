@@ -1,6 +1,6 @@
 // From the source to what is to be written.
 ghost use Rattle.std.specs.Prelude.{◌≡◌, ◌≤◌, ◌+◌, ◌^◌, length, Some, IfOk, IfErr};
-ghost use Rattle.gp_app.specs.Work.{Refuses, Makes};
+ghost use Rattle.gp_app.specs.Work.{HasSize, Refuses, Makes};
 ghost use Rattle.gp_app.specs.Answer.{Answers, told_line, made_by, IsRefusalOf};
 ghost use Rattle.gp_app.specs.Lines.{done_line};
 ghost use Rattle.gp_app.specs.Taken.{TakesInput};
@@ -8,10 +8,12 @@ ghost use Rattle.gp_app.specs.Taken.{TakesInput};
 use crate::commands::Command;
 use crate::lines::{PACKED, UNPACKED, done_line};
 use arrayvec::ArrayVec;
+use gp_analyse::analyse;
 use gp_asset::Refusal;
 use gp_document::Output;
-use gp_host::{Bytes, ReadRefusal, Source, read_all};
+use gp_host::{Bytes, NoMemory, ReadRefusal, Source, read_all};
 use gp_pack::pack;
+use gp_sample::sample_glb;
 use gp_unpack::unpack;
 use std::alloc::Global;
 
@@ -40,6 +42,7 @@ pub(crate) fn answer_to<S: Source>(
     asked: Command,
     input: &mut S,
 ) -> Result<Answer, Stop>
+    requires { HasSize asked }
     ensures answers { Answers asked (S.state input.old) (S.state input.new) result }
     ensures turns { (S.state input.new).calls ≤ (S.state input.old).calls + 2 ^ 29 + 1 }
     ensures later { (S.state input.old).faults ≤ (S.state input.new).faults }
@@ -55,19 +58,24 @@ pub(crate) fn answer_to<S: Source>(
     }
 }
 
-/// Takes the whole input of a command: all that the source has left.
+/// Takes the whole input of a command: all that the source has left, or its own sample.
 fn take_input<S: Source>(alloc: Global, asked: Command, input: &mut S) -> Result<Vec<u8>, Stop>
+    requires { HasSize asked }
     ensures takes { TakesInput asked (S.state input.old) (S.state input.new) result }
     ensures fits { IfOk result (λ bytes. length bytes.items ≤ 2 ^ 29) }
     ensures turns { (S.state input.new).calls ≤ (S.state input.old).calls + 2 ^ 29 + 1 }
     ensures later { (S.state input.old).faults ≤ (S.state input.new).faults }
 {
     match asked {
-        Command::Pack | Command::Unpack => match read_all(alloc, input, MOST) {
+        Command::Pack | Command::Unpack | Command::Analyse => match read_all(alloc, input, MOST) {
             Ok(bytes) => Ok(bytes),
             Err(ReadRefusal::Failed) => Err(Stop::InputFailed),
             Err(ReadRefusal::TooLarge) => Err(Stop::TooLarge),
             Err(ReadRefusal::Memory) => Err(Stop::NoMemory),
+        },
+        Command::Sample(size) => match sample_glb(alloc, size) {
+            Ok(bytes) => Ok(bytes),
+            Err(NoMemory) => Err(Stop::NoMemory),
         },
     }
 }
@@ -79,7 +87,7 @@ fn work(alloc: Global, asked: Command, bytes: &[u8]) -> Result<Answer, Refusal>
     ensures refused { IfErr result (IsRefusalOf asked bytes.now) }
 {
     match asked {
-        Command::Pack => {
+        Command::Pack | Command::Sample(_) => {
             let out = pack(alloc, bytes)?;
             Ok(answer_with(PACKED, out, bytes.len()))
         }
@@ -87,6 +95,10 @@ fn work(alloc: Global, asked: Command, bytes: &[u8]) -> Result<Answer, Refusal>
             let out = unpack(alloc, bytes)?;
             Ok(answer_with(UNPACKED, out, bytes.len()))
         }
+        Command::Analyse => Ok(Answer {
+            out: analyse(alloc, bytes)?,
+            line: None,
+        }),
     }
 }
 

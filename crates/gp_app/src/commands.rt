@@ -1,8 +1,10 @@
 // What the program can be asked to do.
 
-/// A command: to pack the input, or to unpack it.
+/// A command: to pack the input, to unpack it, to analyse it, or to pack a sample of this size, which is its own input.
 #[derive(Clone, Copy, Debug, PartialEq, Eq)]
 pub enum Command {
     Pack,
     Unpack,
+    Analyse,
+    Sample(u32),
 }

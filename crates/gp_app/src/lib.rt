@@ -1,8 +1,8 @@
 //! The program's behaviour: from the words of its command line, a source and two sinks to a status.
 //!
 //! [`run`] is the top call. Its contract says, for each status, what was read, what was written to the output and what
-//! the report holds (`specs/Ends.antt`), when a run must be done (`Completes`), and that packing keeps the asset
-//! (`specs/Headline.antt`).
+//! the report holds (`specs/Ends.antt`), when a run must be done (`Completes`), what packing and unpacking keep, and that
+//! an analysis writes its text and no line (`specs/Headline.antt`).
 //!
 //! - `words`, `commands`: what can be asked for. - `answer`: the input and what is made of it. - `deliver`: the output
 //!   and its line. - `lines`, `say`: the report. - `running`: the whole. - `status`: how it ended.
@@ -11,6 +11,7 @@
 mod answer;
 mod commands;
 mod deliver;
+pub mod laws;
 mod lines;
 mod running;
 mod say;

@@ -1,8 +1,9 @@
 // The top call.
 ghost use Rattle.std.specs.Prelude.{◌≤◌, ◌+◌, ◌^◌, map, string_bytes};
 ghost use Rattle.gp_app.specs.Moment.{moment, Later};
+ghost use Rattle.gp_app.specs.Work.{HasSize};
 ghost use Rattle.gp_app.specs.Ends.{Ends, Completes, CommandEnds};
-ghost use Rattle.gp_app.specs.Headline.{Headline, KeepsAsset, KeepsContents};
+ghost use Rattle.gp_app.specs.Headline.{Headline, KeepsAsset, KeepsContents, TellsText};
 
 use crate::Status;
 use crate::answer::{Stop, answer_to};
@@ -14,7 +15,8 @@ use crate::words::command;
 use gp_host::{Sink, Source};
 use std::alloc::Global;
 
-/// Does what the words ask for: reads the input, writes the output, and tells on the report how it ended.
+/// Does what the words ask for: reads the input, writes the output, and tells on the report how it ended. An analysis that
+/// is done has no line there, so a report that fails never ends it.
 pub fn run<S: Source, K: Sink, R: Sink>(
     alloc: Global,
     words: &[String],
@@ -30,11 +32,14 @@ pub fn run<S: Source, K: Sink, R: Sink>(
         (moment (S.state input.old) (K.state output.old) (R.state report.old))
         (moment (S.state input.new) (K.state output.new) (R.state report.new)) result }
 
-    // What packing and unpacking keep.
+    // What packing and unpacking keep, and what an analysis writes.
     ensures keeps { KeepsAsset (map string_bytes words.now)
         (moment (S.state input.old) (K.state output.old) (R.state report.old))
         (moment (S.state input.new) (K.state output.new) (R.state report.new)) result }
     ensures unpacks { KeepsContents (map string_bytes words.now)
+        (moment (S.state input.old) (K.state output.old) (R.state report.old))
+        (moment (S.state input.new) (K.state output.new) (R.state report.new)) result }
+    ensures analyses { TellsText (map string_bytes words.now)
         (moment (S.state input.old) (K.state output.old) (R.state report.old))
         (moment (S.state input.new) (K.state output.new) (R.state report.new)) result }
     ensures headline { Headline (map string_bytes words.now)
@@ -82,6 +87,7 @@ fn carry_out<S: Source, K: Sink, R: Sink>(
     output: &mut K,
     report: &mut R,
 ) -> Status
+    requires { HasSize asked }
     ensures ends { CommandEnds asked
         (moment (S.state input.old) (K.state output.old) (R.state report.old))
         (moment (S.state input.new) (K.state output.new) (R.state report.new)) result }
