@@ -1,4 +1,5 @@
 // Which words are commands.
+use crate::analysed::SAMPLE;
 use gp_app::{Command, Status, command, run};
 use gp_host::{MemorySink, MemorySource, NoMemory, Source};
 use std::alloc::Global;
@@ -15,20 +16,37 @@ fn words_of(alloc: Global, texts: &[&str]) -> Result<Vec<String>, NoMemory> {
 }
 
 #[test]
-fn pack_and_unpack_are_commands(rt: HostRuntime) -> Result<(), Fail> {
+fn four_words_begin_commands(rt: HostRuntime) -> Result<(), Fail> {
     let alloc = rt.alloc();
     assert_eq!(rt; command(&words_of(alloc, &["pack"])?), Some(Command::Pack));
     assert_eq!(rt;
         command(&words_of(alloc, &["unpack"])?),
         Some(Command::Unpack)
     );
-    let others: [&[&str]; 8] = [
+    assert_eq!(rt;
+        command(&words_of(alloc, &["analyse"])?),
+        Some(Command::Analyse)
+    );
+    for (number, size) in [("1", 1), ("10", 10), ("99", 99), ("100", 100), ("512", 512)] {
+        let asked = command(&words_of(alloc, &["sample", number])?);
+        assert_eq!(rt; asked, Some(Command::Sample(size)));
+    }
+    let others: [&[&str]; 17] = [
         &[],
         &[""],
         &["Pack"],
         &["pack", "x"],
+        &["sample"],
+        &["sample", ""],
         &["sample", "0"],
-        &["analyse"],
+        &["sample", "01"],
+        &["sample", "+1"],
+        &["sample", "1 "],
+        &["sample", "513"],
+        &["sample", "1000"],
+        &["sample", "1", "1"],
+        &["analyze"],
+        &["analyse", "x"],
         &["--help"],
         &["pack "],
     ];
@@ -41,7 +59,7 @@ fn pack_and_unpack_are_commands(rt: HostRuntime) -> Result<(), Fail> {
 #[test]
 fn other_words_read_and_write_nothing(rt: HostRuntime) -> Result<(), Fail> {
     let alloc = rt.alloc();
-    let words = words_of(alloc, &["pack", "x"])?;
+    let words = words_of(alloc, &["sample", "01"])?;
     let mut input = MemorySource::new(Vec::from_slice(alloc, b"{}")?, 8, Vec::new(alloc));
     let mut output = MemorySink::new(alloc, 64, 8, Vec::new(alloc))?;
     let mut report = MemorySink::new(alloc, 96, 8, Vec::new(alloc))?;
@@ -49,6 +67,25 @@ fn other_words_read_and_write_nothing(rt: HostRuntime) -> Result<(), Fail> {
     assert_eq!(rt; status, Status::Usage);
     assert_eq!(rt; output.held(), b"".as_slice());
     assert_eq!(rt; report.held(), USAGE);
+    let mut left = [0; 4];
+    assert_eq!(rt; input.read(&mut left), Ok(2));
+    Ok(())
+}
+
+#[test]
+fn a_sample_is_packed_and_reads_nothing(rt: HostRuntime) -> Result<(), Fail> {
+    let alloc = rt.alloc();
+    let words = words_of(alloc, &["sample", "1"])?;
+    let mut input = MemorySource::new(Vec::from_slice(alloc, b"{}")?, 8, Vec::new(alloc));
+    let mut output = MemorySink::new(alloc, 1024, 8, Vec::new(alloc))?;
+    let mut report = MemorySink::new(alloc, 96, 8, Vec::new(alloc))?;
+    let status = run(alloc, &words, &mut input, &mut output, &mut report);
+    assert_eq!(rt; status, Status::Done);
+    assert_eq!(rt; output.held(), SAMPLE);
+    assert_eq!(rt;
+        report.held(),
+        b"packed views 0 of 2 in 532 out 692\n".as_slice()
+    );
     let mut left = [0; 4];
     assert_eq!(rt; input.read(&mut left), Ok(2));
     Ok(())
