@@ -12,6 +12,16 @@ printf '\n## Reading assets\n\n'
 python3 "$tools/bench_assets.py"
 printf '\n## Packing and unpacking buffer views\n\n'
 python3 "$tools/bench_views.py"
+printf '\n## Packing meshes\n\n'
+python3 "$tools/bench_meshes.py"
+printf '\n## Unpacking streams\n\n'
+python3 "$tools/bench_unpack.py"
+printf '\n## Very many primitives\n\n'
+python3 "$tools/bench_groups.py"
+printf '\n## Many files\n\n'
+python3 "$tools/bench_many.py"
 printf '\n## The coders of streams\n\n'
 bash "$tools/bench/run.sh"
+printf '\n## Merging of records, and the order of triangles\n\n'
+bash "$tools/bench/orders.sh"
 uptime

@@ -1,0 +1,20 @@
+#!/usr/bin/env bash
+# Measures the merging of records and Tipsify's order beside libmeshoptimizer, where the system has it (Debian's libmeshoptimizer-dev):
+#   tools/bench/orders.sh [WORD..]
+# The words go to the program (orders.cc). `rt` builds the static library; all else is made in a folder that is removed.
+set -eu
+top=$(cd "$(dirname "$0")/../.." && pwd)
+made=$(mktemp -d)
+trap 'rm -rf "$made"' EXIT
+
+(cd "$top/crates/gp_orders_c" && rt check >"$made/log" 2>&1 && rt lib >>"$made/log" 2>&1) || { tail "$made/log"; exit 1; }
+cxx=${CXX:-g++}
+if printf '#include <meshoptimizer.h>\n' | "$cxx" -E -x c++ - >/dev/null 2>&1; then
+    with="-DWITH_MESHOPTIMIZER"
+    their=-lmeshoptimizer
+else
+    with=
+    their=
+fi
+"$cxx" -std=c++17 -O2 -Wall -Wextra $with "$top/tools/bench/orders.cc" "$top/crates/gp_orders_c/out/libgp_orders_c.a" $their -o "$made/orders"
+"$made/orders" "$@"
