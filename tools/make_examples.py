@@ -6,6 +6,8 @@ import math
 import pathlib
 import struct
 
+from example_meshes import cube, figure, torus
+
 EXAMPLES = pathlib.Path(__file__).resolve().parent.parent / "examples"
 
 # A row of trees along a road, with a camera that looks down it. No mesh: each tree is a named place.
@@ -111,8 +113,10 @@ def main() -> None:
     (EXAMPLES / "scene.glb").write_bytes(glb(pretty))
     (EXAMPLES / "scene.gltf").write_text(pretty + "\n")
     (EXAMPLES / "notes.glb").write_bytes(glb(pretty, chunk(b"BIN\0", bytes(range(16))), notes))
-    asset, content = spiral()
-    (EXAMPLES / "points.glb").write_bytes(glb(json.dumps(asset), chunk(b"BIN\0", content)))
+    models = {"points": spiral(), "cube": cube(), "torus": torus(100, 100), "figure": figure()}
+    for name, (asset, content) in models.items():
+        content += bytes(-len(content) % 4)
+        (EXAMPLES / f"{name}.glb").write_bytes(glb(json.dumps(asset), chunk(b"BIN\0", content)))
     (EXAMPLES / "spellings.gltf").write_text(SPELLINGS)
     (EXAMPLES / "zeros.gltf").write_text(json.dumps(ZEROS, indent=2) + "\n")
 
