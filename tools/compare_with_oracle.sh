@@ -2,7 +2,7 @@
 # Compares the program with the oracle, an independent implementation in Python, on generated files:
 #   tools/compare_with_oracle.sh ORACLE COUNT SEED..
 # ORACLE is the folder with gen.py and compare.py. For each seed COUNT files are generated whose JSON has no views, and
-# the files for `pack` and those for `unpack` among COUNT of every kind. Any difference in status, output or report fails.
+# the files for `pack`, `unpack` and `analyse` among COUNT of every kind. Any difference in status, output or report fails.
 set -euo pipefail
 top=$(cd "$(dirname "$0")/.." && pwd)
 oracle=$(cd "$1" && pwd)
@@ -19,7 +19,7 @@ compare() {
     local seed=$1 kind=$2
     shift 2
     python3 "$oracle/gen.py" "$count" "$seed" "$cases/$seed" "$@" >/dev/null
-    python3 "$oracle/compare.py" "$cases/$seed" --level R6 --program "$top/crates/glbpack/out/glbpack" >"$cases/told" || true
+    python3 "$oracle/compare.py" "$cases/$seed" --level R16 --program "$top/crates/glbpack/out/glbpack" >"$cases/told" || true
     local told
     told=$(tail -n 1 "$cases/told")
     echo "seed $seed, $kind: $told"
@@ -34,5 +34,6 @@ for seed in "$@"; do
     compare "$seed" "JSON without views" --small
     compare "$seed" "every kind, packed" --only pack
     compare "$seed" "every kind, unpacked" --only unpack
+    compare "$seed" "every kind, analysed" --only analyse
 done
 exit "$failed"
