@@ -3,9 +3,9 @@
 
     tools/bench_meshes.py [--turns N] [--only NAME..] [--keep FOLDER]
 
-Each program packs each model N times in turns (5 where nothing is said); the table has the best times on the clock in seconds, the most
-memory in units of 2^20 bytes, and the sizes in MB, which are 10^6 bytes. gltfpack runs as `gltfpack -noq -c`. The models are made from
-fixed seeds; --keep leaves them in a folder, and takes them from there the next time.
+Each program packs each model N times in turns (5 where nothing is said); the table has the best times on the clock and in the
+program itself in seconds, the most memory in units of 2^20 bytes, and the sizes in MB, which are 10^6 bytes. gltfpack runs as
+`gltfpack -noq -c`. The models are made from fixed seeds; --keep leaves them in a folder, and takes them from there the next time.
 """
 
 import argparse
@@ -229,9 +229,12 @@ def tell(name: str, size: int, runs: dict[str, list[Run]], sizes: dict[str, int]
     row = [name, f"{size / 1e6:.1f}"]
     for program, found in runs.items():
         if any(run.status for run in found):
-            row += ["-", found[-1].told[-40:], "-"]
+            row += ["-", "-", found[-1].told[-40:], "-"]
         else:
-            row += [f"{min(run.seconds for run in found):.2f}", f"{max(run.memory for run in found):.0f}", f"{sizes[program] / 1e6:.2f}"]
+            row += [
+                f"{min(run.seconds for run in found):.2f}", f"{min(run.user for run in found):.2f}",
+                f"{max(run.memory for run in found):.0f}", f"{sizes[program] / 1e6:.2f}",
+            ]
     print("| " + " | ".join(row) + " |", flush=True)
 
 
@@ -244,8 +247,8 @@ def main() -> None:
     programs = {"glbpack": by_program}
     if shutil.which("gltfpack"):
         programs["gltfpack"] = by_gltfpack
-    print("| model | MB | " + " | ".join(f"{name}, s | memory | MB" for name in programs) + " |")
-    print("|---" * (2 + 3 * len(programs)) + "|")
+    print("| model | MB | " + " | ".join(f"{name}, s | user s | memory | MB" for name in programs) + " |")
+    print("|---" * (2 + 4 * len(programs)) + "|")
     with tempfile.TemporaryDirectory() as made:
         folder = options.keep or pathlib.Path(made)
         folder.mkdir(exist_ok=True)

@@ -16,6 +16,7 @@ import random
 import shutil
 import struct
 import subprocess
+import sys
 import tempfile
 
 from bench_meshes import INT, MODELS, PROGRAM, TOP, Model, shuffled
@@ -45,6 +46,15 @@ def streams(glb: bytes) -> list[tuple[str, int, int, bytes]]:
     ]
 
 
+SOURCES = {"terrain": MODELS["terrain"], "shuffled terrain": lambda: shuffled(1024), "index sequence": lambda: sequence(1 << 24)}
+
+
+def make(path: pathlib.Path, name: str) -> None:
+    """Writes a model in a process of its own, so that its memory isn't told for that of the program."""
+    code = f"import sys; sys.path.insert(0, {str(TOP / 'tools')!r}); import bench_unpack as b; open({str(path)!r}, 'wb').write(b.SOURCES[{name!r}]())"
+    subprocess.run([sys.executable, "-c", code], check=True)
+
+
 def by_library(folder: pathlib.Path, packed: bytes) -> str:
     decoder = folder / "decode"
     if not decoder.exists():
@@ -62,16 +72,15 @@ def main() -> None:
     parser = argparse.ArgumentParser(description=__doc__, formatter_class=argparse.RawDescriptionHelpFormatter)
     parser.add_argument("--turns", type=int, default=5)
     turns = parser.parse_args().turns
-    models = {"terrain": MODELS["terrain"], "shuffled terrain": lambda: shuffled(1024), "index sequence": lambda: sequence(1 << 24)}
     print("| model | packed, MB | unpacked, MB | unpack, s | memory | cat, s | libmeshoptimizer, s |\n|---|---|---|---|---|---|---|")
     with tempfile.TemporaryDirectory() as made:
         folder = pathlib.Path(made)
         if shutil.which("g++"):
             subprocess.run(
                 ["g++", "-O2", "-o", folder / "decode", TOP / "tools/bench/decode.cc", "-lmeshoptimizer"], stderr=subprocess.DEVNULL)
-        for name, make in models.items():
+        for name in SOURCES:
             path, packed, unpacked = folder / "model.glb", folder / "packed.glb", folder / "unpacked.glb"
-            path.write_bytes(make())
+            make(path, name)
             with open(path, "rb") as source, open(packed, "wb") as sink:
                 subprocess.run([PROGRAM, "pack"], stdin=source, stdout=sink, stderr=subprocess.DEVNULL, check=True)
             with open(packed, "rb") as source, open(unpacked, "wb") as sink:
