@@ -38,7 +38,7 @@ all_triangles first size is same some =
 -- ---- the list of an accessor of indices
 
 -- a list, where each of its numbers is of a vertex
-abbrev below : ℕ → List ℕ → Option (List ℕ)
+abbrev pub below : ℕ → List ℕ → Option (List ℕ)
 below count list = if are_below count list then Some list else None
 
 tested : (shape resolved : Bool) (count : ℕ) (numbers : List ℕ)
@@ -47,7 +47,7 @@ tested true true count numbers = refl
 tested true false count numbers = refl
 tested false resolved count numbers = refl
 
-one_tested : (a : AssetParts) (contents : List (List ℕ)) (count : ℕ) (found : Option Accessor) → option_and_then (list_in a contents count) found ≡ option_and_then (below count) (option_and_then (corners_in a contents) found)
+pub one_tested : (a : AssetParts) (contents : List (List ℕ)) (count : ℕ) (found : Option Accessor) → option_and_then (list_in a contents count) found ≡ option_and_then (below count) (option_and_then (corners_in a contents) found)
 unfolding list_in
 one_tested a contents count None = refl
 one_tested a contents count (Some acc) = tested (has_corner_shape acc) (has_resolved contents acc) count (numbers_of a contents acc)

@@ -16,13 +16,13 @@ use std::alloc::Global;
 
 /// What doesn't depend on the primitive that draws a list.
 #[derive(Clone, Copy)]
-pub(crate) struct Drawn {
+pub struct Drawn {
     /// How many triangles there are.
-    pub(crate) triangles: u64,
+    pub triangles: u64,
     /// The least number of vertices that has them all.
-    pub(crate) vertices: u64,
+    pub vertices: u64,
     /// How often they miss a cache of vertices.
-    pub(crate) misses: u64,
+    pub misses: u64,
 }
 
 /// What drawing accessor `at` takes; none where it is no list of whole triangles.
@@ -87,8 +87,13 @@ pub(crate) fn count_lines<V: ViewBytes>(
     }
 }
 
-// The list of accessor `at`, where its numbers are the corners of whole triangles.
-fn index_list<'a, V: ViewBytes>(asset: &Asset<'_>, views: &'a V, at: usize) -> Option<IndexList<'a>>
+/// The list of accessor `at` of an asset that was read and whose views are all held, where its numbers are the corners of whole triangles.
+/// It takes no memory.
+pub fn index_list<'a, V: ViewBytes>(
+    asset: &Asset<'_>,
+    views: &'a V,
+    at: usize,
+) -> Option<IndexList<'a>>
     requires views { HasEvery asset.now.views (V.views views.now) }
     requires sound { All (IsSound asset.now.views) asset.now.accessors }
     ensures corners { option_map (λ list. map number_of list.elements) result ≡ corners_at asset.now (contents_of (V.views views.now)) at }

@@ -92,14 +92,14 @@ impl Lines {
 
 /// What is known of an asset's accessors.
 #[derive(Drop)]
-pub(crate) struct Known {
+pub struct Known {
     pub(crate) lists: Lists,
     pub(crate) lines: Lines,
 }
 
 impl Known {
     /// Nothing yet, of so many accessors.
-    pub(crate) fn new(alloc: Global, accessors: usize) -> Result<Known, NoMemory>
+    pub fn new(alloc: Global, accessors: usize) -> Result<Known, NoMemory>
         ensures { IfOk result (λ known. known ≡ nothing_known accessors) }
     {
         let Some(places) = accessors.checked_mul(16) else {
@@ -111,7 +111,7 @@ impl Known {
     }
 
     /// What drawing accessor `at` takes; none where it is no list of whole triangles.
-    pub(crate) fn drawn<V: ViewBytes>(
+    pub fn drawn<V: ViewBytes>(
         &mut self,
         alloc: Global,
         asset: &Asset<'_>,

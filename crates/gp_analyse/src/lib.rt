@@ -8,6 +8,8 @@
 //! gone through once, and once for each size of a vertex, and where it has no view, only what its `sparse` gives
 //! (`specs/Costs.antt`).
 //!
+//! [`Known`] and [`index_list`] are for crates that go through the same lists for another text.
+//!
 //! - `analysing`: the call. - `reporting`: the text. - `measuring`: the line of a primitive. - `costing`: its costs.
 //! - `known`: what was found of accessors of indices. - `drawing`: what drawing one takes. - `thinning`: its numbers.
 //! - `writing`: words and numbers. - `laws`: what the definitions promise.
@@ -26,3 +28,6 @@ mod thinning;
 mod writing;
 
 pub use analysing::analyse;
+pub use drawing::{Drawn, index_list};
+pub use known::Known;
+pub use thinning::IndexList;

@@ -14,9 +14,11 @@ use std::alloc::Global;
 
 /// An accessor of the corners of whole triangles, and its elements.
 #[derive(Drop)]
-pub(crate) struct IndexList<'a> {
-    pub(crate) accessor: Accessor,
-    pub(crate) elements: Elements<'a>,
+pub struct IndexList<'a> {
+    /// The accessor.
+    pub accessor: Accessor,
+    /// Its elements, each a number.
+    pub elements: Elements<'a>,
 }
 
 /// The numbers of a list without each 0 right behind a 0.
