@@ -1,0 +1,10 @@
+pub mod Across
+pub mod Corners
+pub mod Reading
+pub mod Turned
+pub mod Rising
+pub mod Rotations
+pub mod Steps
+pub mod Marks
+pub mod Giving
+pub mod Both
