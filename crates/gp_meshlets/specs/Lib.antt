@@ -1,0 +1,6 @@
+pub mod Meshlets
+pub mod Building
+pub mod Corners
+pub mod Laws
+pub mod Text
+pub mod Telling
