@@ -1,28 +1,29 @@
--- From how a run ends to the headline of packing, to what unpacking keeps, and to what an analysis writes.
+-- From how a run ends to the headline of packing, to what unpacking keeps, and to the texts that are written.
 use Rattle.std.proofs.Common.{◌≡◌, ◌≢◌, ◌⊎◌, inl, inr, ℕ, ◌+◌, ◌<◌, ◌≤◌, ◌^◌, List, ◌++◌, length, None, Some, Option, MatchOption, refl, sym, ap, ◌∙◌, subst, arith, append-nil, length-append}
 use Rattle.std.specs.Io.KnownBytes.{Consumes, IsAtEnd}
 use Rattle.gp_host.specs.Causes.{Rose}
 use Rattle.gp_host.specs.Sink.{SinkAt}
 use Rattle.gp_host.specs.Source.{SourceAt}
 use Rattle.gp_document.specs.Faults.{HasFault}
-use Rattle.gp_pack.specs.Packed.{packing}
-use Rattle.gp_pack.specs.Same.{Same}
-use Rattle.gp_pack.proofs.Sameness.{packed_is_same}
+use Rattle.gp_packed.specs.Packed.{packing}
+use Rattle.gp_sameness.specs.Same.{Same}
+use Rattle.gp_kept.proofs.Sameness.{packed_is_same}
 use Rattle.gp_unpack.specs.Kept.{KeepsViews}
 use Rattle.gp_unpack.proofs.Keeping.{unpacked_keeps_views}
 use Rattle.gp_asset.specs.declared.refusal.Refusal.{Refusal}
 use Rattle.gp_app.specs.Words.{command}
 use Rattle.gp_app.specs.Lines.{too_large_line, line_of_refusal}
+use Rattle.gp_app.specs.Input.{ReadToEnd}
 use Rattle.gp_app.specs.Moment.{Moment, IsSteady, NoneRose}
 use Rattle.gp_app.specs.Written.{WroteAll, Says}
 use Rattle.gp_sample.proofs.Lengths.{sample_fits}
 use Rattle.gp_app.specs.Work.{HasSize, IsReading, Takes, HasInput, Made, Makes, MakesText, Refuses}
 use Rattle.gp_app.specs.Delivered.{Tells, LineFails}
 use Rattle.gp_app.specs.Ends.{Ends, CommandEnds, NoCommandEnds, EndsDone, EndsTooLarge, EndsFaulty}
-use Rattle.gp_app.specs.Headline.{IsPacking, ReportsFault, WritesSame, KeepsAsset, Headline, KeepsContents, WritesText, TellsText}
+use Rattle.gp_app.specs.Headline.{IsPacking, ReportsFault, WritesSame, KeepsAsset, Headline, KeepsContents, IsTextOf, IsTelling, WritesText, TellsText}
 use Rattle.gp_app.proofs.Sizes.{has_size}
 use Rattle.gp_app.specs.declared.commands.Command.{Command}
-use Rattle.gp_app.specs.declared.commands.Command.TheVariants.{Pack, Unpack, Analyse, Sample}
+use Rattle.gp_app.specs.declared.commands.Command.TheVariants.{Pack, Unpack, Analyse, Sample, Meshlets}
 use Rattle.gp_app.specs.declared.status.Status.{Status}
 use Rattle.gp_app.specs.declared.status.Status.TheVariants.{Done, Refused, Usage, Outside, Memory}
 
@@ -39,6 +40,7 @@ the_input : (asked : Command) (before after : SourceAt) (bytes all : List ℕ) �
 the_input Pack before after bytes all read told = taken before.left after.left bytes all read.all read.at_end told
 the_input Unpack before after bytes all read told = taken before.left after.left bytes all read.all read.at_end told
 the_input Analyse before after bytes all read told = taken before.left after.left bytes all read.all read.at_end told
+the_input Meshlets before after bytes all read told = taken before.left after.left bytes all read.all read.at_end told
 the_input (Sample n) before after bytes all (unread, is) told = is ∙ sym told
 
 -- and it is within the limit
@@ -46,6 +48,7 @@ within : (asked : Command) (before after : SourceAt) (bytes : List ℕ) → HasS
 within Pack before after bytes size read = read.fits
 within Unpack before after bytes size read = read.fits
 within Analyse before after bytes size read = read.fits
+within Meshlets before after bytes size read = read.fits
 within (Sample n) before after bytes size (unread, is) = subst (λ b. length b ≤ 2 ^ 29) (sym is) (sample_fits n size.1)
 
 -- more than the limit was left where more than it was taken
@@ -77,6 +80,7 @@ unfolding Makes
 same_made Pack bytes made packs (packed, small, is, e) = subst (Same bytes) (sym (ap (λ (m : Made). m.out) e)) (packed_is_same bytes packed small is)
 same_made Unpack bytes made packs makes = absurd packs
 same_made Analyse bytes made packs makes = absurd packs
+same_made Meshlets bytes made packs makes = absurd packs
 same_made (Sample n) bytes made packs (packed, small, is, e) = subst (Same bytes) (sym (ap (λ (m : Made). m.out) e)) (packed_is_same bytes packed small is)
 
 done_same : (asked : Command) (before after : Moment) → IsPacking asked → (done : EndsDone asked before after) → WritesSame asked done.bytes before after
@@ -109,15 +113,29 @@ keeps_contents words before after status ends is done =
     let own = subst (CommandEnds Unpack before after) done (ends_as words Unpack before after status is ends) in
     (own.bytes, record { read = own.taken; glb = own.made.out; written = own.written; kept = kept_made own.bytes own.made own.makes })
 
--- ---- analysing
+-- ---- texts
 
-text_made : (bytes : List ℕ) (made : Made) → Makes Analyse bytes made → MakesText bytes made
+-- the text of a command that writes one, and no line
+text_made : (asked : Command) (bytes : List ℕ) (made : Made) → IsTelling asked → Makes asked bytes made → MakesText (IsTextOf asked) bytes made
 unfolding Makes
-text_made bytes made makes = makes
+text_made Analyse bytes made tells makes = makes
+text_made Meshlets bytes made tells makes = makes
+text_made Pack bytes made tells makes = absurd tells
+text_made Unpack bytes made tells makes = absurd tells
+text_made (Sample n) bytes made tells makes = absurd tells
 
-done_text : (before after : Moment) (done : EndsDone Analyse before after) → MakesText done.bytes done.made → WritesText done.bytes before after
-done_text before after done (text, is, e) = record {
-  read = done.taken;
+-- such a command reads its source
+read_whole : (asked : Command) (before after : SourceAt) (bytes : List ℕ) → IsTelling asked → Takes asked before after bytes → ReadToEnd before after bytes
+read_whole Analyse before after bytes tells read = read
+read_whole Meshlets before after bytes tells read = read
+read_whole Pack before after bytes tells read = absurd tells
+read_whole Unpack before after bytes tells read = absurd tells
+read_whole (Sample n) before after bytes tells read = absurd tells
+
+done_text : (asked : Command) (before after : Moment) → IsTelling asked → (done : EndsDone asked before after) → MakesText (IsTextOf asked) done.bytes done.made
+    → WritesText asked done.bytes before after
+done_text asked before after tells done (text, is, e) = record {
+  read = read_whole asked before.input after.input done.bytes tells done.taken;
   text = text;
   is_text = is;
   written = subst (WroteAll before.output after.output) (ap (λ (m : Made). m.out) e) done.written;
@@ -125,9 +143,9 @@ done_text before after done (text, is, e) = record {
 }
 
 pub tells_text : (words : List (List ℕ)) (before after : Moment) (status : Status) → Ends words before after status → TellsText words before after status
-tells_text words before after status ends is done =
-    let own = subst (CommandEnds Analyse before after) done (ends_as words Analyse before after status is ends) in
-    (own.bytes, done_text before after own (text_made own.bytes own.made own.makes))
+tells_text words before after status ends asked is tells done =
+    let own = subst (CommandEnds asked before after) done (ends_as words asked before after status is ends) in
+    (own.bytes, done_text asked before after tells own (text_made asked own.bytes own.made tells own.makes))
 
 -- ---- the headline
 
@@ -135,6 +153,7 @@ told_left : (asked : Command) (left : Option (List ℕ)) (bytes : List ℕ) → 
 told_left Pack left bytes reads told = told
 told_left Unpack left bytes reads told = told
 told_left Analyse left bytes reads told = told
+told_left Meshlets left bytes reads told = told
 told_left (Sample n) left bytes reads told = absurd reads
 
 reports_large : (asked : Command) (bytes : List ℕ) (before after : Moment) → HasInput asked before.input.left bytes → NoneRose before after → EndsTooLarge asked before after → ReportsFault bytes before after Refused
@@ -151,6 +170,7 @@ unfolding Refuses
 has_fault Pack bytes refusal packs h = h
 has_fault Unpack bytes refusal packs h = absurd packs
 has_fault Analyse bytes refusal packs h = absurd packs
+has_fault Meshlets bytes refusal packs h = absurd packs
 has_fault (Sample n) bytes refusal packs h = h
 
 module _ (asked : Command) (bytes : List ℕ) (before after : Moment) (size : HasSize asked) (packs : IsPacking asked) (told : HasInput asked before.input.left bytes) (steady : NoneRose before after) where

@@ -17,11 +17,11 @@ use Rattle.gp_document.proofs.OneAnswer.{document_one, documents_are_sound}
 use Rattle.gp_unpack.specs.Contents.{all_contents}
 use Rattle.gp_unpack.specs.Unpacked.{made_with, unpacked_or, unpacking}
 use Rattle.gp_unpack.proofs.Keeping.{unpacked_keeps_asset}
-use Rattle.gp_pack.specs.Same.{Same}
-use Rattle.gp_pack.proofs.AnySize.{small_ones_are_assets}
-use Rattle.gp_pack.proofs.LargeAssets.{large_ones_are_too_much}
-use Rattle.gp_pack.proofs.Sameness.{packed_is_same}
-use Rattle.gp_pack.proofs.SameUnpacked.{same_unpacked, same_asset}
+use Rattle.gp_sameness.specs.Same.{Same}
+use Rattle.gp_sameness.proofs.AnySize.{small_ones_are_assets}
+use Rattle.gp_packed.proofs.LargeAssets.{large_ones_are_too_much}
+use Rattle.gp_kept.proofs.Sameness.{packed_is_same}
+use Rattle.gp_packed.proofs.SameUnpacked.{same_unpacked, same_asset}
 use Rattle.gp_app.specs.RoundTrip.{IsLimit, LimitsAreOnlyFaults, UnpackingGivesBack}
 
 -- ---- back

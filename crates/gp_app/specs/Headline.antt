@@ -1,11 +1,12 @@
 -- The headline of packing: whatever bytes the source gives, where memory is found and no count of faults rises, the run reports
--- their first fault and writes nothing, or it writes a file that is the same asset. What unpacking keeps. And what an analysis writes.
+-- their first fault and writes nothing, or it writes a file that is the same asset. What unpacking keeps. And the texts that are written.
 use Rattle.std.specs.Prelude.{◌≡◌, ◌≢◌, ◌⊎◌, ℕ, ◌<◌, ◌≤◌, ◌^◌, ⊤, List, length, Some}
 use Rattle.gp_document.specs.Faults.{HasFault}
-use Rattle.gp_pack.specs.Packed.{packing}
-use Rattle.gp_pack.specs.Same.{Same}
+use Rattle.gp_packed.specs.Packed.{packing}
+use Rattle.gp_sameness.specs.Same.{Same}
 use Rattle.gp_unpack.specs.Kept.{KeepsViews}
 use Rattle.gp_analyse.specs.Reports.{IsReport}
+use Rattle.gp_meshlets.specs.Telling.{IsMeshletText}
 use Rattle.gp_asset.specs.declared.refusal.Refusal.{Refusal}
 use Rattle.gp_app.specs.Words.{command}
 use Rattle.gp_app.specs.Lines.{too_large_line, line_of_refusal}
@@ -14,7 +15,7 @@ use Rattle.gp_app.specs.Input.{ReadToEnd}
 use Rattle.gp_app.specs.Work.{Takes, HasInput}
 use Rattle.gp_app.specs.Written.{WroteAll}
 use Rattle.gp_app.specs.declared.commands.Command.{Command}
-use Rattle.gp_app.specs.declared.commands.Command.TheVariants.{Unpack, Analyse}
+use Rattle.gp_app.specs.declared.commands.Command.TheVariants.{Unpack, Analyse, Meshlets}
 use Rattle.gp_app.specs.declared.status.Status.{Status}
 use Rattle.gp_app.specs.declared.status.Status.TheVariants.{Done, Refused, Memory}
 
@@ -43,6 +44,7 @@ pub record WritesSame (asked : Command) (bytes : List ℕ) (before after : Momen
 abbrev pub IsPacking : Command → Type 0
 IsPacking Unpack = ⊥
 IsPacking Analyse = ⊥
+IsPacking Meshlets = ⊥
 IsPacking _ = ⊤
 
 -- where packing is done, the same asset was written
@@ -66,16 +68,29 @@ pub record WritesKept (bytes : List ℕ) (before after : Moment) : Type 0 where
 abbrev pub KeepsContents : List (List ℕ) → Moment → Moment → Status → Type 0
 KeepsContents words before after status = command words ≡ Some Unpack → status ≡ Done → (bytes : List ℕ) × WritesKept bytes before after
 
--- ---- analysing
+-- ---- texts
 
--- all bytes were read, exactly the text of their analysis was written, and the report is as it was
-pub record WritesText (bytes : List ℕ) (before after : Moment) : Type 0 where
+-- the text that a command writes of an input
+abbrev pub IsTextOf : Command → List ℕ → List ℕ → Type 0
+IsTextOf Analyse bytes text = IsReport bytes text
+IsTextOf Meshlets bytes text = IsMeshletText bytes text
+IsTextOf _ bytes text = ⊥
+
+-- the command writes a text
+abbrev pub IsTelling : Command → Type 0
+IsTelling Analyse = ⊤
+IsTelling Meshlets = ⊤
+IsTelling _ = ⊥
+
+-- all bytes were read, exactly their text was written, and the report is as it was
+pub record WritesText (asked : Command) (bytes : List ℕ) (before after : Moment) : Type 0 where
   pub read : ReadToEnd before.input after.input bytes
   pub text : List ℕ
-  pub is_text : IsReport bytes text
+  pub is_text : IsTextOf asked bytes text
   pub written : WroteAll before.output after.output text
   pub silent : after.report ≡ before.report
 
--- where an analysis is done, it was written so
+-- where such a command is done, its text was written so
 abbrev pub TellsText : List (List ℕ) → Moment → Moment → Status → Type 0
-TellsText words before after status = command words ≡ Some Analyse → status ≡ Done → (bytes : List ℕ) × WritesText bytes before after
+TellsText words before after status = (asked : Command) → command words ≡ Some asked → IsTelling asked → status ≡ Done
+    → (bytes : List ℕ) × WritesText asked bytes before after

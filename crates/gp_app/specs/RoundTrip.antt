@@ -7,9 +7,9 @@ use Rattle.gp_asset.specs.declared.refusal.Refusal.TheVariants.{Glb, Asset, Outp
 use Rattle.gp_document.specs.Faults.{HasFault}
 use Rattle.gp_document.specs.Answers.{IsMade}
 use Rattle.gp_document.specs.declared.output.Output.{Output}
-use Rattle.gp_pack.specs.Packed.{packing}
-use Rattle.gp_pack.specs.StoredParts.{AreBytes}
-use Rattle.gp_pack.specs.Same.{Same}
+use Rattle.gp_packed.specs.Packed.{packing}
+use Rattle.gp_packed.specs.StoredParts.{AreBytes}
+use Rattle.gp_sameness.specs.Same.{Same}
 use Rattle.gp_unpack.specs.Unpacked.{unpacking}
 
 -- packing makes this of an input

@@ -6,16 +6,17 @@ use Rattle.gp_document.specs.Operation.{Operation}
 use Rattle.gp_document.specs.Faults.{HasFault}
 use Rattle.gp_document.specs.Answers.{IsMade}
 use Rattle.gp_document.specs.declared.output.Output.{Output}
-use Rattle.gp_pack.specs.Packed.{packing}
-use Rattle.gp_pack.specs.StoredParts.{AreBytes}
+use Rattle.gp_packed.specs.Packed.{packing}
+use Rattle.gp_packed.specs.StoredParts.{AreBytes}
 use Rattle.gp_unpack.specs.Unpacked.{unpacking}
 use Rattle.gp_analyse.specs.Reports.{IsReport, HasFault as HasAnalysisFault}
+use Rattle.gp_meshlets.specs.Telling.{IsMeshletText}
 use Rattle.gp_sample.specs.Sample.{sample}
 use Rattle.gp_asset.specs.declared.refusal.Refusal.{Refusal}
 use Rattle.gp_app.specs.Lines.{packed_line, unpacked_line}
 use Rattle.gp_app.specs.Input.{ReadToEnd, ReadPart}
 use Rattle.gp_app.specs.declared.commands.Command.{Command}
-use Rattle.gp_app.specs.declared.commands.Command.TheVariants.{Pack, Unpack, Analyse, Sample}
+use Rattle.gp_app.specs.declared.commands.Command.TheVariants.{Pack, Unpack, Analyse, Sample, Meshlets}
 
 -- a sample has a size from 1 to 512
 abbrev pub HasSize : Command → Type 0
@@ -47,6 +48,7 @@ unfoldable pub Refuses : Command → List ℕ → Refusal → Type 0
 Refuses Pack bytes refusal = HasFault packing bytes refusal
 Refuses Unpack bytes refusal = HasFault unpacking bytes refusal
 Refuses Analyse bytes refusal = HasAnalysisFault bytes refusal
+Refuses Meshlets bytes refusal = HasAnalysisFault bytes refusal
 Refuses (Sample n) bytes refusal = HasFault packing bytes refusal
 
 -- what is written for an input without a fault, and the line of Done, where there is one
@@ -59,12 +61,13 @@ abbrev pub MakesFile : Operation → (Output → ℕ → List ℕ) → List ℕ 
 MakesFile operation line bytes made =
     (out : Output) × AreBytes bytes × IsMade operation bytes out × (made ≡ record { out = out.glb; line = Some (line out (length bytes)) })
 
--- the text of the analysis of an input, and no line
-abbrev pub MakesText : List ℕ → Made → Type 0
-MakesText bytes made = (text : List ℕ) × IsReport bytes text × (made ≡ record { out = text; line = None })
+-- the text of an input, and no line
+abbrev pub MakesText : (List ℕ → List ℕ → Type 0) → List ℕ → Made → Type 0
+MakesText IsText bytes made = (text : List ℕ) × IsText bytes text × (made ≡ record { out = text; line = None })
 
 unfoldable pub Makes : Command → List ℕ → Made → Type 0
 Makes Pack bytes made = MakesFile packing packed_line bytes made
 Makes Unpack bytes made = MakesFile unpacking unpacked_line bytes made
-Makes Analyse bytes made = MakesText bytes made
+Makes Analyse bytes made = MakesText IsReport bytes made
+Makes Meshlets bytes made = MakesText IsMeshletText bytes made
 Makes (Sample n) bytes made = MakesFile packing packed_line bytes made

@@ -1,5 +1,5 @@
 // From the source to what is to be written.
-ghost use Rattle.std.specs.Prelude.{◌≡◌, ◌≤◌, ◌+◌, ◌^◌, length, Some, IfOk, IfErr};
+ghost use Rattle.std.specs.Prelude.{◌≡◌, ◌≤◌, ◌+◌, ◌^◌, length, None, Some, IfOk, IfErr};
 ghost use Rattle.gp_app.specs.Work.{HasSize, Refuses, Makes};
 ghost use Rattle.gp_app.specs.Answer.{Answers, told_line, made_by, IsRefusalOf};
 ghost use Rattle.gp_app.specs.Lines.{done_line};
@@ -12,6 +12,7 @@ use gp_analyse::analyse;
 use gp_asset::Refusal;
 use gp_document::Output;
 use gp_host::{Bytes, NoMemory, ReadRefusal, Source, read_all};
+use gp_meshlets::meshlets;
 use gp_pack::pack;
 use gp_sample::sample_glb;
 use gp_unpack::unpack;
@@ -67,7 +68,9 @@ fn take_input<S: Source>(alloc: Global, asked: Command, input: &mut S) -> Result
     ensures later { (S.state input.old).faults ≤ (S.state input.new).faults }
 {
     match asked {
-        Command::Pack | Command::Unpack | Command::Analyse => match read_all(alloc, input, MOST) {
+        Command::Pack | Command::Unpack | Command::Analyse | Command::Meshlets => match read_all(
+            alloc, input, MOST,
+        ) {
             Ok(bytes) => Ok(bytes),
             Err(ReadRefusal::Failed) => Err(Stop::InputFailed),
             Err(ReadRefusal::TooLarge) => Err(Stop::TooLarge),
@@ -95,10 +98,8 @@ fn work(alloc: Global, asked: Command, bytes: &[u8]) -> Result<Answer, Refusal>
             let out = unpack(alloc, bytes)?;
             Ok(answer_with(UNPACKED, out, bytes.len()))
         }
-        Command::Analyse => Ok(Answer {
-            out: analyse(alloc, bytes)?,
-            line: None,
-        }),
+        Command::Analyse => Ok(text_alone(analyse(alloc, bytes)?)),
+        Command::Meshlets => Ok(text_alone(meshlets(alloc, bytes)?)),
     }
 }
 
@@ -111,5 +112,16 @@ fn answer_with(words: &[u8], out: Output, taken: usize) -> Answer
     Answer {
         line: Some(done_line(words, &out, taken)),
         out: out.glb,
+    }
+}
+
+/// A text, and no line.
+fn text_alone(text: Bytes) -> Answer
+    ensures out { result.out ≡ text }
+    ensures line { told_line result ≡ None }
+{
+    Answer {
+        out: text,
+        line: None,
     }
 }

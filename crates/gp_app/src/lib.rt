@@ -2,7 +2,7 @@
 //!
 //! [`run`] is the top call. Its contract says, for each status, what was read, what was written to the output and what
 //! the report holds (`specs/Ends.antt`), when a run must be done (`Completes`), what packing and unpacking keep, and that
-//! an analysis writes its text and no line (`specs/Headline.antt`).
+//! a command that tells of its input writes its text and no line (`specs/Headline.antt`).
 //!
 //! - `words`, `commands`: what can be asked for. - `answer`: the input and what is made of it. - `deliver`: the output
 //!   and its line. - `lines`, `say`: the report. - `running`: the whole. - `status`: how it ended.

@@ -32,14 +32,14 @@ pub fn run<S: Source, K: Sink, R: Sink>(
         (moment (S.state input.old) (K.state output.old) (R.state report.old))
         (moment (S.state input.new) (K.state output.new) (R.state report.new)) result }
 
-    // What packing and unpacking keep, and what an analysis writes.
+    // What packing and unpacking keep, and the texts that are written.
     ensures keeps { KeepsAsset (map string_bytes words.now)
         (moment (S.state input.old) (K.state output.old) (R.state report.old))
         (moment (S.state input.new) (K.state output.new) (R.state report.new)) result }
     ensures unpacks { KeepsContents (map string_bytes words.now)
         (moment (S.state input.old) (K.state output.old) (R.state report.old))
         (moment (S.state input.new) (K.state output.new) (R.state report.new)) result }
-    ensures analyses { TellsText (map string_bytes words.now)
+    ensures texts { TellsText (map string_bytes words.now)
         (moment (S.state input.old) (K.state output.old) (R.state report.old))
         (moment (S.state input.new) (K.state output.new) (R.state report.new)) result }
     ensures headline { Headline (map string_bytes words.now)

@@ -42,26 +42,26 @@ use Rattle.gp_document.proofs.Few.{step, same}
 use Rattle.gp_unpack.specs.Contents.{all_contents}
 use Rattle.gp_unpack.proofs.Drawn.{asset_holds, rules_hold}
 use Rattle.gp_unpack.proofs.EachItem.{each_of_all, all_of_each, each_is, each_found}
-use Rattle.gp_pack.specs.Moved.{Moved}
-use Rattle.gp_pack.specs.MadeLaws.{HasViews}
-use Rattle.gp_pack.specs.MovedGroups.{number_if, next_if, moved_from, movable_groups, moved_groups}
+use Rattle.gp_sameness.specs.Moved.{Moved, movable_groups}
+use Rattle.gp_packed.specs.MadeLaws.{HasViews}
+use Rattle.gp_packed.specs.MovedGroups.{number_if, next_if, moved_from, moved_groups}
 use Rattle.gp_pack.specs.MoveTables.{ReferencesAreThere}
-use Rattle.gp_pack.specs.NewNumbers.{SparseRefersBelow, RefersBelow}
-use Rattle.gp_pack.specs.RulesMoved.{GroupIsWhole}
-use Rattle.gp_pack.specs.TrianglesMoved.{IsRead}
+use Rattle.gp_packed.specs.NewNumbers.{SparseRefersBelow, RefersBelow}
+use Rattle.gp_packed.specs.RulesMoved.{GroupIsWhole}
+use Rattle.gp_kept.specs.TrianglesMoved.{IsRead}
 use Rattle.gp_pack.specs.Making.{own_contents, CanMove, CanMoveAll, NamesWhatIs, CanPack}
-use Rattle.gp_pack.proofs.AccessorsPass.{sparse_below}
-use Rattle.gp_pack.proofs.FieldsKnown.{each_counted}
-use Rattle.gp_pack.proofs.GroupPlaces.{each_in_groups}
-use Rattle.gp_pack.proofs.GroupsApart.{HasUses, column_in, list_in}
-use Rattle.gp_pack.proofs.GroupsRead.{has_uses, is_read}
-use Rattle.gp_pack.proofs.ImagesStay.{images_within}
+use Rattle.gp_kept.proofs.AccessorsPass.{sparse_below}
+use Rattle.gp_sameness.proofs.AnySize.{each_counted}
+use Rattle.gp_kept.proofs.GroupPlaces.{each_in_groups}
+use Rattle.gp_kept.proofs.GroupsApart.{HasUses, column_in, list_in}
+use Rattle.gp_kept.proofs.GroupsRead.{has_uses, is_read}
+use Rattle.gp_kept.proofs.ImagesStay.{images_within}
 use Rattle.gp_pack.proofs.Joining.{own_are}
-use Rattle.gp_pack.proofs.MovedGroups.{each_group}
-use Rattle.gp_pack.proofs.MovedGroupsWhole.{each_whole}
-use Rattle.gp_pack.proofs.NewReferences.{is_known, known_parts, part_of, each_by_place, references_below}
-use Rattle.gp_pack.proofs.StoredSuits.{plain_contents, whole_views}
-use Rattle.gp_pack.proofs.Unpacked.{none_compressed}
+use Rattle.gp_kept.proofs.MovedGroups.{each_group}
+use Rattle.gp_kept.proofs.MovedGroupsWhole.{each_whole}
+use Rattle.gp_packed.proofs.NewReferences.{is_known, known_parts, part_of, each_by_place, references_below}
+use Rattle.gp_packed.proofs.StoredSuits.{plain_contents, whole_views}
+use Rattle.gp_packed.proofs.Unpacked.{none_compressed}
 
 abbrev Below : ℕ → List ℕ → Type 0
 Below n xs = All (λ at. at < n) xs

@@ -7,7 +7,7 @@ use Rattle.gp_moves.specs.declared.group_edit.GroupEdit.{GroupEdit}
 use Rattle.gp_moves.specs.declared.group_edit.Part.{Part}
 use Rattle.gp_moves.specs.declared.group_edit.Part.TheVariants.{Primitives, Columns, Lists}
 use Rattle.gp_moves.specs.Firsts.{first_value, part_of, entry_of, entries_of}
-use Rattle.gp_pack.specs.Moved.{Moved, is_number_in}
+use Rattle.gp_sameness.specs.Moved.{Moved, is_number_in}
 use Rattle.gp_pack.specs.MoveTables.{group_edit_of, part_in, FirstGroupsAreFound}
 
 -- ---- entries of one group, before others

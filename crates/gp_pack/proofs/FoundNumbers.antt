@@ -10,8 +10,8 @@ use Rattle.gp_asset.specs.Asset.{AssetParts}
 use Rattle.gp_alias.specs.Survivors.{renumbered as number_by, new_numbers, survives as survives_by, is_of_moved as is_of_moving, is_dropped as is_dropped_by}
 use Rattle.gp_unpack.proofs.EachItem.{each_of_all}
 use Rattle.gp_moves.specs.References.{new_number}
-use Rattle.gp_pack.specs.Moved.{Moved, is_moved}
-use Rattle.gp_pack.specs.Survivors.{referrers, is_of_moved, is_dropped, survives, renumbered}
+use Rattle.gp_sameness.specs.Moved.{Moved, is_moved}
+use Rattle.gp_sameness.specs.Survivors.{referrers, is_of_moved, is_dropped, survives, renumbered}
 use Rattle.gp_pack.specs.MoveTables.{NewNumbersAgree, NewNumbersAreFound, dropped_of}
 
 -- ---- by a test, and by groups

@@ -10,8 +10,8 @@ use Rattle.gp_asset.specs.Asset.{AssetParts}
 use Rattle.gp_unpack.proofs.EachItem.{each_of_all}
 use Rattle.gp_moves.specs.declared.firsts.Entry.{Entry}
 use Rattle.gp_moves.specs.Firsts.{first_value, entry_of, written_of, written, placed}
-use Rattle.gp_pack.specs.Moved.{Moved}
-use Rattle.gp_pack.specs.MadeViews.{Made, made_column, made_columns, made_list, made_lists, made_views, made_place}
+use Rattle.gp_sameness.specs.Moved.{Moved}
+use Rattle.gp_packed.specs.MadeViews.{Made, made_column, made_columns, made_list, made_lists, made_views, made_place}
 use Rattle.gp_pack.specs.MoveTables.{group_edit_of, HasViews, MadePlacesAreFound}
 
 abbrev accessor_of : Made → ℕ

@@ -16,20 +16,20 @@ use Rattle.gp_storage.specs.Streams.{is_shorter, stream_as, stream_of, stored_vi
 use Rattle.gp_unpack.proofs.EachItem.{each_of_all}
 use Rattle.gp_pack.specs.declared.making.MadeGroups.{MadeGroups}
 use Rattle.gp_pack.specs.declared.made.MadePart.{MadePart}
-use Rattle.gp_pack.specs.Moved.{Moved, is_moved, moved_flags}
-use Rattle.gp_pack.specs.Survivors.{survives, renumbered, where_numbered}
-use Rattle.gp_pack.specs.MadeViews.{Made, made_views}
-use Rattle.gp_pack.specs.MadeLaws.{HasViews}
+use Rattle.gp_sameness.specs.Moved.{Moved, is_moved, moved_flags}
+use Rattle.gp_sameness.specs.Survivors.{survives, renumbered, where_numbered}
+use Rattle.gp_packed.specs.MadeViews.{Made, made_views}
+use Rattle.gp_packed.specs.MadeLaws.{HasViews}
 use Rattle.gp_pack.specs.MadeParts.{part_by, made_part_of}
-use Rattle.gp_pack.specs.MovedGroups.{moved_groups}
+use Rattle.gp_packed.specs.MovedGroups.{moved_groups}
 use Rattle.gp_pack.specs.MoveTables.{ReferencesAreThere}
-use Rattle.gp_pack.specs.Plan.{Stored, stored_made, stored_with, all_stored, output_views}
+use Rattle.gp_packed.specs.Plan.{Stored, stored_made, stored_with, all_stored, output_views}
 use Rattle.gp_pack.specs.Placement.{Shown, shown_of}
 use Rattle.gp_pack.specs.OutputParts.{shown_made, kept_rows, kept_shown}
-use Rattle.gp_pack.specs.Packed.{plain_contents}
+use Rattle.gp_packed.specs.Packed.{plain_contents}
 use Rattle.gp_pack.specs.Making.{Kept, own_contents, none_kept, NamesWhatIs, IsMoving, IsMovedAs}
 use Rattle.gp_pack.proofs.MovedAll.{moved_with, edits_kept, parts_kept, mapped_append}
-use Rattle.gp_pack.proofs.OutputViews.{stored_counted}
+use Rattle.gp_packed.proofs.OutputViews.{stored_counted}
 
 -- ---- contents
 

@@ -10,7 +10,7 @@ use Rattle.gp_mover.specs.declared.moved.MovedGroup.{MovedGroup}
 use Rattle.gp_mover.specs.MovedParts.{MovedParts, moved_group}
 use Rattle.gp_mover.specs.Standing.{parts_of}
 use Rattle.gp_moves.specs.declared.group_edit.GroupEdit.{GroupEdit}
-use Rattle.gp_pack.specs.MovedGroups.{number_if, next_if}
+use Rattle.gp_packed.specs.MovedGroups.{number_if, next_if}
 use Rattle.gp_pack.specs.Making.{Kept, own_contents, with_group, with_movable, with_groups, none_kept, CanMove, CanMoveAll}
 use Rattle.gp_tree.specs.Lexical.{Each}
 use Rattle.gp_unpack.proofs.EachItem.{each_of_all}

@@ -14,9 +14,9 @@ use Rattle.gp_moves.specs.declared.group_edit.Part.TheVariants.{Primitives}
 use Rattle.gp_moves.specs.declared.firsts.Entry.{Entry}
 use Rattle.gp_moves.specs.Firsts.{first_value, first_values, entries_of}
 use Rattle.gp_moves.specs.MadeTrees.{list_at as table_at}
-use Rattle.gp_pack.specs.Moved.{Moved, is_number_in}
-use Rattle.gp_pack.specs.GroupEdits.{group_with, primitive_place}
-use Rattle.gp_pack.specs.MeshesBack.{list_of_group, list_at}
+use Rattle.gp_sameness.specs.Moved.{Moved, is_number_in, group_with}
+use Rattle.gp_sameness.specs.Common.{primitive_place}
+use Rattle.gp_packed.specs.MeshesBack.{list_of_group, list_at}
 use Rattle.gp_pack.specs.MoveTables.{group_edit_of}
 use Rattle.gp_pack.specs.Making.{NamesWhatIs}
 use Rattle.gp_pack.specs.MeshRows.{list_of_owner, list_of_place, no_rows, laid}

@@ -10,11 +10,11 @@ use Rattle.gp_alias.specs.Movable.{is_moved as is_moved_with, is_in_group}
 use Rattle.gp_alias.specs.Groups.{is_among}
 use Rattle.gp_mover.specs.MovedParts.{MovedParts, moved_group}
 use Rattle.gp_pack.specs.declared.made.MadePart.{MadePart}
-use Rattle.gp_pack.specs.Moved.{Moved, is_moved, is_number_in}
-use Rattle.gp_pack.specs.MadeViews.{Made, made_column, made_columns, made_list, made_lists, made_views}
-use Rattle.gp_pack.specs.MadeLaws.{HasViews}
+use Rattle.gp_sameness.specs.Moved.{Moved, is_moved, is_number_in}
+use Rattle.gp_packed.specs.MadeViews.{Made, made_column, made_columns, made_list, made_lists, made_views}
+use Rattle.gp_packed.specs.MadeLaws.{HasViews}
 use Rattle.gp_pack.specs.MadeParts.{made_part_of, column_part_of, column_parts, list_part_of, list_parts}
-use Rattle.gp_pack.specs.MovedGroups.{moved_of, number_if, next_if, moved_from}
+use Rattle.gp_packed.specs.MovedGroups.{moved_of, number_if, next_if, moved_from}
 use Rattle.gp_pack.specs.MoveTables.{group_edit_of}
 use Rattle.gp_pack.specs.Making.{Kept, own_contents, with_if, with_groups}
 

@@ -12,11 +12,11 @@ use Rattle.gp_mover.specs.MadeBytes.{list_width, list_contents}
 use Rattle.gp_mover.proofs.Kept.{records_are_kept}
 use Rattle.gp_storage.specs.Coding.{numbers_in}
 use Rattle.gp_storage.specs.Streams.{MayBeCoded}
-use Rattle.gp_pack.specs.Moved.{Moved}
+use Rattle.gp_sameness.specs.Moved.{Moved}
 use Rattle.gp_pack.specs.MadeParts.{list_coding}
-use Rattle.gp_pack.proofs.ChosenOrders.{may_move, length-records}
-use Rattle.gp_pack.proofs.MovedWhole.{repeats_short}
-use Rattle.gp_pack.proofs.MadeLists.{lists_back}
+use Rattle.gp_kept.proofs.ChosenOrders.{may_move, length-records}
+use Rattle.gp_kept.proofs.MovedWhole.{repeats_short}
+use Rattle.gp_kept.proofs.MadeLists.{lists_back}
 
 -- ---- few records
 

@@ -17,15 +17,15 @@ use Rattle.gp_storage.specs.Streams.{is_shorter, stream_as, stream_of, stored_vi
 use Rattle.gp_unpack.proofs.EachItem.{all_of_each}
 use Rattle.gp_pack.specs.declared.made.MadePart.{MadePart}
 use Rattle.gp_pack.specs.declared.parts.Part.{Part}
-use Rattle.gp_pack.specs.Moved.{Moved}
-use Rattle.gp_pack.specs.MadeViews.{Made, made_column, made_columns, made_list, made_lists, made_views}
+use Rattle.gp_sameness.specs.Moved.{Moved}
+use Rattle.gp_packed.specs.MadeViews.{Made, made_column, made_columns, made_list, made_lists, made_views}
 use Rattle.gp_pack.specs.MadeParts.{made_part_of}
 use Rattle.gp_pack.specs.OutputParts.{coding_if, shown_made, kept_rows, kept_shown}
 use Rattle.gp_pack.specs.Placement.{Shown, shown, shown_of, HasStride}
-use Rattle.gp_pack.specs.Plan.{Stored, stored_as}
-use Rattle.gp_pack.proofs.GroupsRead.{element_some}
-use Rattle.gp_pack.proofs.MadeViewsBack.{each_append}
-use Rattle.gp_pack.proofs.StoredSuits.{FitsMode, FitsCoding, coding_fits}
+use Rattle.gp_packed.specs.Plan.{Stored, stored_as}
+use Rattle.gp_kept.proofs.GroupsRead.{element_some}
+use Rattle.gp_packed.proofs.MadeViewsBack.{each_append}
+use Rattle.gp_packed.proofs.StoredSuits.{FitsMode, FitsCoding, coding_fits}
 
 abbrev SomeStride : Coding → Type 0
 SomeStride c = 0 < c.stride

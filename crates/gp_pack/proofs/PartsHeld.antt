@@ -11,7 +11,7 @@ use Rattle.gp_layout.proofs.Parts.{length_starts}
 use Rattle.gp_unpack.specs.Contents.{held}
 use Rattle.gp_unpack.proofs.Finishing.{has_each, held_again}
 use Rattle.gp_pack.specs.declared.parts.Part.{Part}
-use Rattle.gp_pack.specs.Plan.{Stored, parts, part_starts}
+use Rattle.gp_packed.specs.Plan.{Stored, parts, part_starts}
 use Rattle.gp_pack.specs.Placement.{Shown, shown, shown_of, StandFor, parts_in}
 
 -- ---- by number

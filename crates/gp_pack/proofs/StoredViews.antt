@@ -9,7 +9,7 @@ use Rattle.gp_rules.specs.declared.storage.View.{View}
 use Rattle.gp_asset.specs.Contents.{plain_bytes, plain_if, plain_views, bytes_at}
 use Rattle.gp_asset.specs.Asset.{AssetParts}
 use Rattle.gp_storage.specs.declared.coding.Stream.{Stream}
-use Rattle.gp_pack.specs.Plan.{Stored, stored_as, stored_with}
+use Rattle.gp_packed.specs.Plan.{Stored, stored_as, stored_with}
 use Rattle.gp_pack.specs.Placement.{Shown, shown_of}
 use Rattle.gp_pack.specs.OutputParts.{kept_rows}
 use Rattle.gp_pack.proofs.Placed.{drop_next, zip_at}

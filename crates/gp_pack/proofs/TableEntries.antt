@@ -5,8 +5,8 @@ use Rattle.std.proofs.Common.{◌≡◌, ℕ, zero, suc, ◌+◌, ◌-◌, ◌<�
 use Rattle.std.proofs.lemmas.Bool.Decides.{nat_tests}
 use Rattle.std.proofs.lemmas.List.Sums.{sum_by-cons}
 use Rattle.gp_tree.specs.Lexical.{Each}
-use Rattle.gp_pack.specs.Moved.{Moved, is_number_in}
-use Rattle.gp_pack.specs.MadeViews.{Made}
+use Rattle.gp_sameness.specs.Moved.{Moved, is_number_in}
+use Rattle.gp_packed.specs.MadeViews.{Made}
 use Rattle.gp_pack.specs.MadeParts.{made_part_of}
 use Rattle.gp_pack.specs.MoveTables.{move_by, made_view_of, group_edit_of}
 use Rattle.gp_pack.specs.TableParts.{view_of_part, move_with}

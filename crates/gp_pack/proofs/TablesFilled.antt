@@ -21,13 +21,14 @@ use Rattle.gp_moves.specs.References.{new_number}
 use Rattle.gp_pack.specs.declared.making.MadeGroups.{MadeGroups}
 use Rattle.gp_pack.specs.declared.moving.MoveTables.{MoveTables}
 use Rattle.gp_pack.specs.declared.tables.Places.{Places}
-use Rattle.gp_pack.specs.Moved.{Moved, is_moved}
-use Rattle.gp_pack.specs.Survivors.{survives, renumbered, where_numbered}
-use Rattle.gp_pack.specs.MadeViews.{list_component, made_views, made_place}
-use Rattle.gp_pack.specs.MadeLaws.{HasViews as OrderedViews}
+use Rattle.gp_sameness.specs.Moved.{Moved, is_moved, group_with}
+use Rattle.gp_sameness.specs.Survivors.{survives, renumbered, where_numbered}
+use Rattle.gp_packed.specs.MadeViews.{list_component, made_views, made_place}
+use Rattle.gp_packed.specs.MadeLaws.{HasViews as OrderedViews}
 use Rattle.gp_pack.specs.Making.{IsMovedAs}
-use Rattle.gp_pack.specs.GroupEdits.{made_number, group_with, primitive_place}
-use Rattle.gp_pack.specs.MeshesBack.{list_at}
+use Rattle.gp_sameness.specs.Common.{primitive_place}
+use Rattle.gp_packed.specs.GroupEdits.{made_number}
+use Rattle.gp_packed.specs.MeshesBack.{list_at}
 use Rattle.gp_pack.specs.MoveTables.{HasViews, AreTables, group_edit_of, part_in, move_by, accessor_move, made_list_of, dropped_of}
 use Rattle.gp_pack.specs.TableParts.{ArePlaces, value_at, group_at, view_of_part, view_number, move_with, move_of, moves_of, list_made}
 use Rattle.gp_pack.proofs.FirstGroups.{first_found}

@@ -16,14 +16,15 @@ use Rattle.gp_moves.specs.References.{new_number, renumbered_to, reference, is_s
 use Rattle.gp_moves.specs.MadeTrees.{list_tree, view_tree, with_list, list_at as table_at}
 use Rattle.gp_moves.specs.Edits.{accessors_moved, lists_appended, mesh_lists, primitives_listed, references_renumbered, stays, views_made, groups_moved}
 use Rattle.gp_pack.specs.declared.moving.MoveTables.{MoveTables}
-use Rattle.gp_pack.specs.Moved.{Moved, is_number_in, is_moved}
-use Rattle.gp_pack.specs.Survivors.{survives, renumbered, where_numbered}
-use Rattle.gp_pack.specs.MadeViews.{Made, made_views, list_component}
-use Rattle.gp_pack.specs.References.{each_item, is_kept, numbered_by, new_reference, new_view_reference, new_sparse_references, new_accessor_references, with_new_references}
-use Rattle.gp_pack.specs.GroupEdits.{made_number, group_with, moved_by, moved_accessor, with_moved_accessors, list_accessor, with_list_accessors, primitive_place, indexed_by, indexed_primitive, with_all_indices}
-use Rattle.gp_pack.specs.ViewEdits.{unplaced}
-use Rattle.gp_pack.specs.MeshesBack.{list_of_group, list_at, made_stride}
-use Rattle.gp_pack.specs.Packed.{with_made_views}
+use Rattle.gp_sameness.specs.Moved.{Moved, is_number_in, is_moved, group_with}
+use Rattle.gp_sameness.specs.Survivors.{survives, renumbered, where_numbered}
+use Rattle.gp_packed.specs.MadeViews.{Made, made_views, list_component}
+use Rattle.gp_sameness.specs.References.{each_item, is_kept, numbered_by, new_reference, new_view_reference, new_sparse_references, new_accessor_references, with_new_references}
+use Rattle.gp_sameness.specs.Common.{primitive_place}
+use Rattle.gp_packed.specs.GroupEdits.{made_number, moved_by, moved_accessor, with_moved_accessors, list_accessor, with_list_accessors, indexed_by, indexed_primitive, with_all_indices}
+use Rattle.gp_packed.specs.ViewEdits.{unplaced}
+use Rattle.gp_packed.specs.MeshesBack.{list_of_group, list_at, made_stride}
+use Rattle.gp_packed.specs.Packed.{with_made_views}
 use Rattle.gp_pack.specs.MoveTables.{move_by, accessor_move, made_list_of, made_view_of, AreTables}
 
 -- ---- functions that agree everywhere

@@ -13,8 +13,8 @@ use Rattle.gp_storage.specs.declared.coding.Stream.{Stream}
 use Rattle.gp_storage.specs.Streams.{stream_of}
 use Rattle.gp_moves.specs.declared.group_edit.GroupEdit.{GroupEdit}
 use Rattle.gp_pack.specs.declared.made.MadePart.{MadePart}
-use Rattle.gp_pack.specs.MadeViews.{Made}
-use Rattle.gp_pack.specs.Plan.{stream_bytes}
+use Rattle.gp_packed.specs.MadeViews.{Made}
+use Rattle.gp_packed.specs.Plan.{stream_bytes}
 
 -- ---- a view
 

@@ -16,11 +16,11 @@ use Rattle.gp_mover.specs.MovedParts.{moved_group}
 use Rattle.gp_moves.specs.declared.group_edit.GroupEdit.{GroupEdit}
 use Rattle.gp_pack.specs.declared.made.MadePart.{MadePart}
 use Rattle.gp_pack.specs.declared.making.MadeGroups.{MadeGroups}
-use Rattle.gp_pack.specs.MovedGroups.{number_if, next_if, moved_groups}
+use Rattle.gp_packed.specs.MovedGroups.{number_if, next_if, moved_groups}
 use Rattle.gp_pack.specs.MadeParts.{column_parts, list_parts, edit_of, made_part_of}
-use Rattle.gp_pack.specs.Moved.{Moved, is_moved}
-use Rattle.gp_pack.specs.MadeViews.{made_views}
-use Rattle.gp_pack.specs.MadeLaws.{HasViews}
+use Rattle.gp_sameness.specs.Moved.{Moved, is_moved}
+use Rattle.gp_packed.specs.MadeViews.{made_views}
+use Rattle.gp_packed.specs.MadeLaws.{HasViews}
 use Rattle.gp_pack.specs.MoveTables.{group_edit_of, ReferencesAreThere}
 
 -- the contents of the views that the asset itself has

@@ -17,11 +17,12 @@ use Rattle.gp_moves.specs.Firsts.{first_value, entries_of, written, placed}
 use Rattle.gp_moves.specs.References.{new_number}
 use Rattle.gp_moves.specs.MadeTrees.{list_at as table_at}
 use Rattle.gp_pack.specs.declared.moving.MoveTables.{MoveTables}
-use Rattle.gp_pack.specs.Moved.{Moved, is_moved}
-use Rattle.gp_pack.specs.Survivors.{renumbered}
-use Rattle.gp_pack.specs.MadeViews.{Made, list_component, made_views, made_place}
-use Rattle.gp_pack.specs.GroupEdits.{made_number, group_with, primitive_place}
-use Rattle.gp_pack.specs.MeshesBack.{list_at, made_stride}
+use Rattle.gp_sameness.specs.Moved.{Moved, is_moved, group_with}
+use Rattle.gp_sameness.specs.Survivors.{renumbered}
+use Rattle.gp_packed.specs.MadeViews.{Made, list_component, made_views, made_place}
+use Rattle.gp_sameness.specs.Common.{primitive_place}
+use Rattle.gp_packed.specs.GroupEdits.{made_number}
+use Rattle.gp_packed.specs.MeshesBack.{list_at, made_stride}
 
 -- of an accessor, by the groups that have it among their columns and their lists
 abbrev pub move_by : ℕ → Option Moved → Option Moved → AccessorMove

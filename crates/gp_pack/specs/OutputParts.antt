@@ -4,7 +4,7 @@ use Rattle.gp_asset.specs.Asset.{AssetParts}
 use Rattle.gp_storage.specs.declared.coding.Coding.{Coding}
 use Rattle.gp_storage.specs.declared.coding.Stream.{Stream}
 use Rattle.gp_pack.specs.declared.made.MadePart.{MadePart}
-use Rattle.gp_pack.specs.Plan.{Stored, stored_as, stored_with}
+use Rattle.gp_packed.specs.Plan.{Stored, stored_as, stored_with}
 use Rattle.gp_pack.specs.Placement.{Shown, shown_of}
 
 -- one of the input, with these contents and this stream or none

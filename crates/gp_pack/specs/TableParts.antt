@@ -10,7 +10,7 @@ use Rattle.gp_moves.specs.declared.made.MadeView.{MadeView}
 use Rattle.gp_moves.specs.Firsts.{first_values, entries_of, written, placed}
 use Rattle.gp_pack.specs.declared.made.MadePart.{MadePart}
 use Rattle.gp_pack.specs.declared.tables.Places.{Places}
-use Rattle.gp_pack.specs.MeshesBack.{made_stride}
+use Rattle.gp_packed.specs.MeshesBack.{made_stride}
 
 -- of a view that is made, its length and its stride
 abbrev pub view_of_part : MadePart → MadeView

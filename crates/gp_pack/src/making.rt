@@ -7,7 +7,7 @@ ghost use Rattle.gp_moving.specs.Triangles.{IsTriangleList};
 ghost use Rattle.gp_mover.specs.MovedParts.{record_size};
 ghost use Rattle.gp_mover.specs.MadeBytes.{list_width};
 ghost use Rattle.gp_mover.specs.Standing.{parts_of, IsWhole};
-ghost use Rattle.gp_pack.specs.MovedGroups.{number_if, next_if};
+ghost use Rattle.gp_packed.specs.MovedGroups.{number_if, next_if};
 ghost use Rattle.gp_pack.specs.MadeParts.{column_coding, column_part_of, column_parts, list_parts, edit_of};
 ghost use Rattle.gp_pack.specs.Making.{CanMoveAll, CanMove, MovesAll, with_group, with_movable, kept};
 

@@ -2,9 +2,9 @@
 ghost use Rattle.std.specs.Prelude.{◌≡◌, ℕ, List, map, IfOk, OnOk};
 ghost use Rattle.gp_asset.specs.Asset.{AssetParts};
 ghost use Rattle.gp_moves.specs.MadeTrees.{list_at as table_at};
-ghost use Rattle.gp_pack.specs.Moved.{Moved};
-ghost use Rattle.gp_pack.specs.GroupEdits.{primitive_place};
-ghost use Rattle.gp_pack.specs.MeshesBack.{list_at};
+ghost use Rattle.gp_sameness.specs.Moved.{Moved};
+ghost use Rattle.gp_sameness.specs.Common.{primitive_place};
+ghost use Rattle.gp_packed.specs.MeshesBack.{list_at};
 ghost use Rattle.gp_pack.specs.MoveTables.{group_edit_of};
 ghost use Rattle.gp_pack.specs.Making.{NamesWhatIs};
 ghost use Rattle.gp_pack.specs.MeshRows.{list_of_owner, rows, at_mesh, with_list, all_rows};

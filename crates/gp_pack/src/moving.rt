@@ -2,10 +2,10 @@
 ghost use Rattle.std.specs.Prelude.{◌≡◌, List, OnOk};
 ghost use Rattle.gp_tree.specs.Plain.{plain};
 ghost use Rattle.gp_asset.specs.Asset.{AssetParts};
-ghost use Rattle.gp_pack.specs.Moved.{Moved};
-ghost use Rattle.gp_pack.specs.References.{with_new_references};
-ghost use Rattle.gp_pack.specs.GroupEdits.{with_moved_accessors, with_list_accessors, with_all_indices};
-ghost use Rattle.gp_pack.specs.Packed.{with_made_views};
+ghost use Rattle.gp_sameness.specs.Moved.{Moved};
+ghost use Rattle.gp_sameness.specs.References.{with_new_references};
+ghost use Rattle.gp_packed.specs.GroupEdits.{with_moved_accessors, with_list_accessors, with_all_indices};
+ghost use Rattle.gp_packed.specs.Packed.{with_made_views};
 ghost use Rattle.gp_pack.specs.MoveTables.{AreTables};
 
 use gp_host::NoMemory;

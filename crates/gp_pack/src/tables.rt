@@ -1,7 +1,7 @@
 // The tables of what becomes of accessors, primitives and views.
 ghost use Rattle.std.specs.Prelude.{◌≡◌, ◌++◌, is_some, map, filter_map, option_copied, option_to_list, List, IfOk, OnOk};
 ghost use Rattle.std.specs.List.{count_by};
-ghost use Rattle.gp_pack.specs.Moved.{Moved};
+ghost use Rattle.gp_sameness.specs.Moved.{Moved};
 ghost use Rattle.gp_pack.specs.MoveTables.{AreTables};
 ghost use Rattle.gp_pack.specs.Making.{IsMovedAs};
 ghost use Rattle.gp_pack.specs.TableParts.{ArePlaces, view_of_part, view_number, move_with, moves_of, value_at, group_at, component_for, list_made};

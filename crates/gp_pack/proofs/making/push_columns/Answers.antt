@@ -3,7 +3,7 @@ use Rattle.std.proofs.lemmas.List.Elements.{All-get_or}
 use Rattle.gp_mover.specs.Standing.{parts_of}
 use Rattle.gp_pack.specs.MadeParts.{column_parts}
 use Rattle.gp_pack.proofs.MadeGroups.{one_column, all_columns, first_column}
-use Rattle.gp_pack.proofs.RecordsRead.{found_at}
+use Rattle.gp_kept.proofs.RecordsRead.{found_at}
 use Rattle.gp_pack.proofs.making.push_columns.Goals as goal
 
 pub columns-init : goal.columns-init

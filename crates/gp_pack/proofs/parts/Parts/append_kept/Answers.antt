@@ -1,6 +1,6 @@
 use Rattle.std.proofs.Common.{◌<◌, ◌≤◌, ◌++◌, [], ◌∷◌, None, map, length, get_or, refl, ap, ◌∙◌, arith}
 use Rattle.std.proofs.lemmas.Option.{slice_get_read, slice_get-get_or}
-use Rattle.gp_pack.specs.Plan.{stored_as}
+use Rattle.gp_packed.specs.Plan.{stored_as}
 use Rattle.gp_pack.specs.Placement.{shown}
 use Rattle.gp_pack.specs.OutputParts.{kept_rows, kept_shown}
 use Rattle.gp_pack.proofs.StoredViews.{has_view, one_kept, all_kept}

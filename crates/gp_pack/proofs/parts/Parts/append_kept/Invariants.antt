@@ -1,6 +1,6 @@
 use Rattle.std.proofs.Common.{◌≡◌, ◌++◌, map, drop}
 use Rattle.std.specs.List.{zip}
-use Rattle.gp_pack.specs.Plan.{stored_with}
+use Rattle.gp_packed.specs.Plan.{stored_with}
 use Rattle.gp_pack.specs.Placement.{shown}
 use Rattle.gp_pack.specs.OutputParts.{kept_rows, kept_shown}
 use Rattle.gp_pack.proofs.parts.Parts.append_kept.Given as goal

@@ -1,6 +1,0 @@
-use Rattle.gp_pack.proofs.PackedAccessors.{kept_there}
-use Rattle.gp_pack.proofs.KeptElements.{elements_kept, images_kept, all_elements_kept}
-use Rattle.gp_pack.proofs.elements_moved.kept_elements_stay.Goals as goal
-
-pub returns : goal.returns
-returns c = record { accessors = kept_there; one = elements_kept; images = images_kept; all = all_elements_kept }

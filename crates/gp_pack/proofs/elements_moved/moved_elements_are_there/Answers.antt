@@ -1,5 +1,0 @@
-use Rattle.gp_pack.proofs.MovedElements.{column_elements, list_elements, made_list_elements}
-use Rattle.gp_pack.proofs.elements_moved.moved_elements_are_there.Goals as goal
-
-pub returns : goal.returns
-returns c = record { columns = column_elements; lists = list_elements; made = made_list_elements }

@@ -1,5 +1,0 @@
-use Rattle.gp_pack.proofs.MovedElements.{rest_kept}
-use Rattle.gp_pack.proofs.elements_moved.packed_keeps_the_rest.Goals as goal
-
-pub returns : goal.returns
-returns c = rest_kept

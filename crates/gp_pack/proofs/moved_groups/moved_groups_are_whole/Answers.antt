@@ -1,5 +1,0 @@
-use Rattle.gp_pack.proofs.MovedGroupsWhole.{groups_are_whole}
-use Rattle.gp_pack.proofs.moved_groups.moved_groups_are_whole.Goals as goal
-
-pub returns : goal.returns
-returns c = groups_are_whole

@@ -1,5 +1,0 @@
-use Rattle.gp_pack.proofs.GroupsCanMove.{groups_can_move}
-use Rattle.gp_pack.proofs.moved_groups.moved_groups_can_move.Goals as goal
-
-pub returns : goal.returns
-returns c = groups_can_move

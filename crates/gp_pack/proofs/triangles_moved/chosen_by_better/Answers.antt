@@ -1,5 +1,0 @@
-use Rattle.gp_pack.proofs.ChosenOrders.{chosen_by_better}
-use Rattle.gp_pack.proofs.triangles_moved.chosen_by_better.Goals as goal
-
-pub returns : goal.returns
-returns c = chosen_by_better

@@ -1,5 +1,0 @@
-use Rattle.gp_pack.proofs.RecordBytes.{moved_group_has_bytes}
-use Rattle.gp_pack.proofs.triangles_moved.moved_group_has_bytes.Goals as goal
-
-pub returns : goal.returns
-returns c = moved_group_has_bytes

@@ -1,5 +1,0 @@
-use Rattle.gp_pack.proofs.MovedWhole.{moved_group_is_whole}
-use Rattle.gp_pack.proofs.triangles_moved.moved_group_is_whole.Goals as goal
-
-pub returns : goal.returns
-returns c = moved_group_is_whole

@@ -1,5 +1,0 @@
-use Rattle.gp_pack.proofs.RecordsMoved.{moved_records}
-use Rattle.gp_pack.proofs.triangles_moved.moved_records.Goals as goal
-
-pub returns : goal.returns
-returns c = moved_records

@@ -1,5 +1,0 @@
-use Rattle.gp_pack.proofs.TrianglesMoved.{moved_triangles}
-use Rattle.gp_pack.proofs.triangles_moved.moved_triangles.Goals as goal
-
-pub returns : goal.returns
-returns c = moved_triangles
