@@ -71,7 +71,7 @@ const PACKED: [(&[u8], &[u8], &[u8]); 10] = [
 fn groups_are_moved(rt: HostRuntime) -> Result<(), Fail> {
     for (file, out, line) in &PACKED {
         for most in [7, 4096] {
-            assert!(rt; ends_with(rt.alloc(), file, most, Status::Done, out, line)?);
+            assert!(rt; ends_with(rt.alloc(), "pack", file, most, Status::Done, out, line)?);
         }
     }
     Ok(())

@@ -5,7 +5,7 @@ use gp_host::{MemorySink, MemorySource, NoMemory, Source};
 use std::alloc::Global;
 use std::test::Fail;
 
-const USAGE: &[u8] = b"usage: glbpack pack / unpack / analyse / sample N\n";
+const USAGE: &[u8] = b"usage: glbpack pack / unpack / analyse / sample N / meshlets\n";
 
 fn words_of(alloc: Global, texts: &[&str]) -> Result<Vec<String>, NoMemory> {
     let mut words = Vec::new(alloc);
@@ -16,7 +16,7 @@ fn words_of(alloc: Global, texts: &[&str]) -> Result<Vec<String>, NoMemory> {
 }
 
 #[test]
-fn four_words_begin_commands(rt: HostRuntime) -> Result<(), Fail> {
+fn five_words_begin_commands(rt: HostRuntime) -> Result<(), Fail> {
     let alloc = rt.alloc();
     assert_eq!(rt; command(&words_of(alloc, &["pack"])?), Some(Command::Pack));
     assert_eq!(rt;
@@ -27,11 +27,15 @@ fn four_words_begin_commands(rt: HostRuntime) -> Result<(), Fail> {
         command(&words_of(alloc, &["analyse"])?),
         Some(Command::Analyse)
     );
+    assert_eq!(rt;
+        command(&words_of(alloc, &["meshlets"])?),
+        Some(Command::Meshlets)
+    );
     for (number, size) in [("1", 1), ("10", 10), ("99", 99), ("100", 100), ("512", 512)] {
         let asked = command(&words_of(alloc, &["sample", number])?);
         assert_eq!(rt; asked, Some(Command::Sample(size)));
     }
-    let others: [&[&str]; 17] = [
+    let others: [&[&str]; 18] = [
         &[],
         &[""],
         &["Pack"],
@@ -47,6 +51,7 @@ fn four_words_begin_commands(rt: HostRuntime) -> Result<(), Fail> {
         &["sample", "1", "1"],
         &["analyze"],
         &["analyse", "x"],
+        &["meshlets", "x"],
         &["--help"],
         &["pack "],
     ];
