@@ -12,10 +12,10 @@ is packed.
 import base64
 import os
 import subprocess
-import sys
 import tempfile
 
 from measuring import best
+from options import reader
 
 TOP = os.path.dirname(os.path.dirname(os.path.abspath(__file__)))
 PROGRAM = os.path.join(TOP, "crates", "glbpack", "out", "glbpack")
@@ -50,8 +50,11 @@ def buffers(count):
 
 
 def main():
-    count = int(sys.argv[1]) if len(sys.argv) > 1 else 100000
-    runs = int(sys.argv[2]) if len(sys.argv) > 2 else 5
+    parser = reader(__doc__)
+    parser.add_argument("count", nargs="?", type=int, default=100000)
+    parser.add_argument("runs", nargs="?", type=int, default=5)
+    asked = parser.parse_args()
+    count, runs = asked.count, asked.runs
     subprocess.run([os.path.join(TOP, "glbpack")], stderr=subprocess.DEVNULL, check=False)  # builds it where it is missing
     with tempfile.TemporaryDirectory() as folder:
         for name, made in (("whole", whole), ("accessors", accessors_alone), ("buffers", buffers)):

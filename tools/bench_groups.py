@@ -26,6 +26,7 @@ import sys
 import tempfile
 
 from measuring import best
+from options import reader
 
 SHAPES = ("apart", "shared", "chain")
 TURNS = 5
@@ -65,12 +66,16 @@ def text(shape, size):
 
 
 def main():
-    arguments = sys.argv[1:]
-    if len(arguments) == 3 and arguments[0] == "--write" and arguments[1] in SHAPES and arguments[2].isdigit():
-        sys.stdout.write(text(arguments[1], int(arguments[2]))[0])
+    parser = reader(__doc__)
+    parser.add_argument("--write", nargs=2, metavar=("SHAPE", "SIZE"))
+    parser.add_argument("words", nargs="*", help="the size of the texts, and the program that reads them")
+    asked = parser.parse_args()
+    if asked.write:
+        if asked.write[0] not in SHAPES or not asked.write[1].isdigit():
+            parser.error(f"a shape is one of {', '.join(SHAPES)}, and a size is a number")
+        sys.stdout.write(text(asked.write[0], int(asked.write[1]))[0])
         return
-    if arguments and arguments[0].startswith("-"):
-        sys.exit(__doc__)
+    arguments = asked.words
     size = int(arguments.pop(0)) if arguments and arguments[0].isdigit() else 2**26 - 16
     program = arguments or [str(PROGRAM), "pack"]
     print("| text | primitives | s | user s | memory MiB | time ×2 | memory ×2 | cat s | told |")

@@ -6,7 +6,6 @@
 N copies (1000 where nothing is said) of the examples, in turn, are packed by the built program.
 """
 
-import argparse
 import itertools
 import os
 import pathlib
@@ -15,13 +14,15 @@ import subprocess
 import tempfile
 import time
 
+from options import reader
+
 TOP = pathlib.Path(__file__).resolve().parent.parent
 LINE = ("find models -name '*.glb' -print0 | xargs -0 -P%d -n1 sh -c 'o=packed/${0#models/}; mkdir -p \"${o%%/*}\"; "
         "glbpack pack <\"$0\" >\"$o.part\" && mv \"$o.part\" \"$o\" || { rm -f \"$o.part\"; exit 1; }'")
 
 
 def main() -> None:
-    parser = argparse.ArgumentParser(description=__doc__, formatter_class=argparse.RawDescriptionHelpFormatter)
+    parser = reader(__doc__)
     parser.add_argument("--copies", type=int, default=1000)
     copies = parser.parse_args().copies
     examples = sorted((TOP / "examples").glob("*.glb"))

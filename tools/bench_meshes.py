@@ -8,7 +8,6 @@ program itself in seconds, the most memory in units of 2^20 bytes, and the sizes
 `gltfpack -noq -c`. The models are made from fixed seeds; --keep leaves them in a folder, and takes them from there the next time.
 """
 
-import argparse
 import array
 import json
 import math
@@ -21,6 +20,7 @@ import sys
 import tempfile
 
 from measuring import Run, once
+from options import reader
 
 TOP = pathlib.Path(__file__).resolve().parent.parent
 PROGRAM = TOP / "crates/glbpack/out/glbpack"
@@ -239,7 +239,7 @@ def tell(name: str, size: int, runs: dict[str, list[Run]], sizes: dict[str, int]
 
 
 def main() -> None:
-    parser = argparse.ArgumentParser(description=__doc__, formatter_class=argparse.RawDescriptionHelpFormatter)
+    parser = reader(__doc__)
     parser.add_argument("--turns", type=int, default=5)
     parser.add_argument("--only", nargs="+", choices=MODELS, default=list(MODELS))
     parser.add_argument("--keep", type=pathlib.Path)

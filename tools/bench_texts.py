@@ -16,6 +16,7 @@ import sys
 import tempfile
 
 from measuring import best
+from options import reader
 
 SHAPES = ["objects", "string", "digits", "keys"]
 TURNS = 5
@@ -31,7 +32,9 @@ def measured(words, text):
 
 
 def main():
-    arguments = sys.argv[1:]
+    parser = reader(__doc__)
+    parser.add_argument("words", nargs="*", help="the size of the texts, and the program that reads them")
+    arguments = parser.parse_args().words
     size = int(arguments.pop(0)) if arguments and arguments[0].isdigit() else 2**26 - 16
     program = arguments or [str(TOOLS.parent / "glbpack"), "pack"]
     print("| text | s | MB/s | user s | memory MB | time ×2 | memory ×2 | cat s |")

@@ -8,7 +8,6 @@ The models are a terrain of two million triangles and one whose triangles are sh
 output, and of the decoder alone for each stream of the file.
 """
 
-import argparse
 import array
 import json
 import pathlib
@@ -21,6 +20,7 @@ import tempfile
 
 from bench_meshes import INT, MODELS, PROGRAM, TOP, Model, shuffled
 from measuring import best
+from options import reader
 
 
 def sequence(count: int, seed: int = 17) -> bytes:
@@ -69,7 +69,7 @@ def by_library(folder: pathlib.Path, packed: bytes) -> str:
 
 
 def main() -> None:
-    parser = argparse.ArgumentParser(description=__doc__, formatter_class=argparse.RawDescriptionHelpFormatter)
+    parser = reader(__doc__)
     parser.add_argument("--turns", type=int, default=5)
     turns = parser.parse_args().turns
     print("| model | packed, MB | unpacked, MB | unpack, s | memory | cat, s | libmeshoptimizer, s |\n|---|---|---|---|---|---|---|")

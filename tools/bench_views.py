@@ -19,10 +19,10 @@ import os
 import random
 import struct
 import subprocess
-import sys
 import tempfile
 
 from measuring import best
+from options import reader
 
 TOP = os.path.dirname(os.path.dirname(os.path.abspath(__file__)))
 PROGRAM = os.path.join(TOP, "crates", "glbpack", "out", "glbpack")
@@ -74,10 +74,11 @@ def packed(data):
 
 
 def main():
-    if len(sys.argv) > 3 or not all(word.isdigit() for word in sys.argv[1:]):
-        sys.exit(__doc__)
-    length = int(sys.argv[1]) if len(sys.argv) > 1 else 64
-    runs = int(sys.argv[2]) if len(sys.argv) > 2 else 5
+    parser = reader(__doc__)
+    parser.add_argument("length", nargs="?", type=int, default=64)
+    parser.add_argument("runs", nargs="?", type=int, default=5)
+    asked = parser.parse_args()
+    length, runs = asked.length, asked.runs
     count = length * (1 << 20) // STRIDE
     commands = {"pack": [PROGRAM, "pack"], "unpack": [PROGRAM, "unpack"], "copy": ["cat"]}
     forms = (("plain", plain, ("pack", "unpack", "copy")), ("stream", packed, ("unpack", "copy")))

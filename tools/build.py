@@ -7,12 +7,13 @@ Standard error tells each crate as it is proved. Status 0 where all is proved an
 said of the crate that failed. Nothing that was built before is taken for built.
 """
 
-import argparse
 import os
 import pathlib
 import re
 import subprocess
 import sys
+
+from options import reader
 
 TOP = pathlib.Path(__file__).resolve().parent.parent
 FAILED = 70
@@ -54,7 +55,7 @@ def build() -> bool:
 
 
 def main() -> int:
-    argparse.ArgumentParser(description=__doc__, formatter_class=argparse.RawDescriptionHelpFormatter).parse_args()
+    reader(__doc__).parse_args()
     return 0 if prove_all() and build() else FAILED
 
 

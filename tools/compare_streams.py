@@ -8,12 +8,13 @@ project writes: every mode and code, unread bits and bytes at random, bytes cut 
 elements for the encoders are smooth, constant and random. Any other answer, byte or fault is told, and fails.
 """
 
-import argparse
 import pathlib
 import random
 import struct
 import subprocess
 import sys
+
+from options import reader
 
 TOP = pathlib.Path(__file__).resolve().parent.parent
 
@@ -187,7 +188,7 @@ def large(program, random_, streams):
 
 
 def main():
-    parser = argparse.ArgumentParser()
+    parser = reader(__doc__)
     parser.add_argument("oracle")
     parser.add_argument("--cases", type=int, default=3000)
     parser.add_argument("--seed", type=int, default=1)

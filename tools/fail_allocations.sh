@@ -3,6 +3,7 @@
 #   tools/fail_allocations.sh FILE MOST
 # Each run must end with the right answer (an allocation may be tried a second time, or there may be fewer), or with
 # `want of memory` and nothing written.
+case "${1:-}" in --help) sed -n '2,/^[^#]/{/^#/s/^# \{0,1\}//p}' "$0"; exit ;; esac
 set -eu
 top=$(cd "$(dirname "$0")/.." && pwd)
 file=$(realpath "$1")

@@ -14,6 +14,8 @@ import subprocess
 import sys
 import tempfile
 
+from options import reader
+
 TOOLS = pathlib.Path(__file__).resolve().parent
 PROGRAM = TOOLS.parent / "crates" / "glbpack" / "out" / "glbpack"
 WANT = (4, b"", b"want of memory\n")
@@ -27,9 +29,9 @@ def run(command, content, shim, at, count):
 
 
 def main():
-    files = sys.argv[1:]
-    if not files:
-        sys.exit(__doc__)
+    parser = reader(__doc__)
+    parser.add_argument("files", nargs="+", metavar="FILE")
+    files = parser.parse_args().files
     failed = 0
     with tempfile.TemporaryDirectory() as folder:
         shim = pathlib.Path(folder) / "failing_malloc.so"

@@ -7,6 +7,7 @@ import pathlib
 import struct
 
 from example_meshes import cube, figure, torus
+from options import reader
 
 EXAMPLES = pathlib.Path(__file__).resolve().parent.parent / "examples"
 
@@ -107,6 +108,7 @@ def glb(text: str, *others: bytes) -> bytes:
 
 
 def main() -> None:
+    reader(__doc__).parse_args()
     EXAMPLES.mkdir(exist_ok=True)
     pretty = json.dumps(SCENE, indent=2)
     notes = chunk(b"NOTE", b"three trees, one road\n\0\0")

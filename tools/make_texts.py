@@ -13,6 +13,8 @@ keys     one object whose keys share a long beginning, in no order
 import itertools
 import sys
 
+from options import reader
+
 FRONT = b'{"asset":{"version":"2.0"},"extras":'
 BEHIND = b"}"
 
@@ -56,9 +58,11 @@ def string(size):
 
 
 def main():
-    if len(sys.argv) != 3:
-        sys.exit(__doc__)
-    shape, size = sys.argv[1], int(sys.argv[2])
+    parser = reader(__doc__)
+    parser.add_argument("shape", choices=["objects", "digits", "keys", "string"])
+    parser.add_argument("size", type=int)
+    asked = parser.parse_args()
+    shape, size = asked.shape, asked.size
     size -= len(FRONT) + len(BEHIND)
     lists = {"objects": objects, "digits": digits}
     if shape in lists:

@@ -1,6 +1,7 @@
 #!/usr/bin/env bash
 # Tries that ./glbpack runs no program that isn't proved: tools/try_build.sh
 # In a copy with a toolchain that fails, an older program must not be run, and the status must be 70.
+case "${1:-}" in --help) sed -n '2,/^[^#]/{/^#/s/^# \{0,1\}//p}' "$0"; exit ;; esac
 set -euo pipefail
 if [ $# -gt 0 ]; then
     sed -n '2,3s/^# //p' "$0"
@@ -12,7 +13,7 @@ trap 'rm -rf "$copy"' EXIT
 
 mkdir -p "$copy/bin" "$copy/crates/glbpack/out" "$copy/crates/glbpack/src" "$copy/tools" "$copy/examples"
 cp "$top/glbpack" "$copy/"
-cp "$top/tools/build.py" "$copy/tools/"
+cp "$top/tools/build.py" "$top/tools/options.py" "$copy/tools/"
 cp "$top/examples/scene.glb" "$copy/examples/"
 echo "glbpack:" >"$copy/crates.txt"
 printf '#!/bin/sh\necho an old program ran\n' >"$copy/crates/glbpack/out/glbpack"

@@ -3,6 +3,7 @@
 #   tools/try_streams.sh PROGRAM
 # Each run must end with the exit status that the table in README.md has for it, and leave on the other streams what
 # stands there. Any difference is told, and fails.
+case "${1:-}" in --help) sed -n '2,/^[^#]/{/^#/s/^# \{0,1\}//p}' "$0"; exit ;; esac
 set -euo pipefail
 top=$(cd "$(dirname "$0")/.." && pwd)
 program=$(realpath "$1")
@@ -70,7 +71,7 @@ ends "report closed" 3 pack <"$file" >"$output" 2>&-
 writes "$work/packed"
 
 ends "no words" 2 <"$file" >"$output" 2>"$report"
-tells "usage: glbpack pack / unpack / analyse / sample N"
+tells "usage: glbpack pack / unpack / analyse / sample N / meshlets"
 writes /dev/null
 
 [ "$failed" -eq 0 ] || exit 1

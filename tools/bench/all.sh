@@ -1,5 +1,6 @@
 #!/usr/bin/env bash
 # Every measurement of docs/BENCHMARKS.md but that of the gate, in one run, on one machine: a heading and a table each.
+case "${1:-}" in --help) sed -n '2,/^[^#]/{/^#/s/^# \{0,1\}//p}' "$0"; exit ;; esac
 set -eu
 tools=$(cd "$(dirname "$0")/.." && pwd)
 
@@ -24,4 +25,6 @@ printf '\n## The coders of streams\n\n'
 bash "$tools/bench/run.sh"
 printf '\n## Merging of records, and the order of triangles\n\n'
 bash "$tools/bench/orders.sh"
+printf '\n## Meshlets\n\n'
+bash "$tools/bench/meshlets.sh"
 uptime

@@ -2,6 +2,7 @@
 # Measures the merging of records and Tipsify's order beside libmeshoptimizer, where the system has it (Debian's libmeshoptimizer-dev):
 #   tools/bench/orders.sh [WORD..]
 # The words go to the program (orders.cc). `rt` builds the static library; all else is made in a folder that is removed.
+case "${1:-}" in --help) sed -n '2,/^[^#]/{/^#/s/^# \{0,1\}//p}' "$0"; exit ;; esac
 set -eu
 top=$(cd "$(dirname "$0")/../.." && pwd)
 made=$(mktemp -d)

@@ -2,6 +2,7 @@
 # Measures the coders of streams beside libmeshoptimizer, where the system has it (Debian's libmeshoptimizer-dev):
 #   tools/bench/run.sh [WORD..]
 # The words go to the program (streams.cc). `rt` builds the static library; all else is made in a folder that is removed.
+case "${1:-}" in --help) sed -n '2,/^[^#]/{/^#/s/^# \{0,1\}//p}' "$0"; exit ;; esac
 set -eu
 top=$(cd "$(dirname "$0")/../.." && pwd)
 made=$(mktemp -d)
