@@ -1,3 +1,4 @@
+pub mod FewBits
 pub mod Vertices
 pub mod Turns
 pub mod Pieces

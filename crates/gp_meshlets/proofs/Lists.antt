@@ -1,7 +1,6 @@
 -- The list of an accessor of indices, from how many vertices it takes; and that a plain list has whole triangles.
-use Rattle.std.proofs.Common.{◌≡◌, ℕ, ◌%◌, ◌<◌, ◌≤◌, ◌==◌, Bool, true, ◌&&◌, cond, if◌then◌else◌, List, [], ◌∷◌, ◌++◌, length, Option, Some, None, IfSome, refl, sym, ap, subst, ◌∙◌, append_assoc, arith}
+use Rattle.std.proofs.Common.{◌≡◌, ℕ, ◌<◌, ◌≤◌, Bool, if◌then◌else◌, List, ◌++◌, Option, Some, None, IfSome, refl, sym, ap, subst, ◌∙◌, append_assoc, arith}
 use Rattle.std.specs.Prelude.{slice_get, option_map, option_and_then}
-use Rattle.gp_rules.specs.declared.accessing.Accessor.{Accessor}
 use Rattle.gp_asset.specs.declared.geometry.Primitive.{Primitive}
 use Rattle.gp_asset.specs.Asset.{AssetParts}
 use Rattle.gp_alias.specs.Plain.{list_in, list_of}

@@ -6,7 +6,7 @@ use Rattle.gp_asset.specs.Asset.{AssetParts}
 use Rattle.gp_document.proofs.OneAnswer.{accepted_asset}
 use Rattle.gp_unpack.specs.Contents.{FaultyView, all_contents}
 use Rattle.gp_analyse.specs.Text.{report}
-use Rattle.gp_analyse.specs.Reports.{text_with as analysis_with, text_of as analysis_of, IsReport, HasFault}
+use Rattle.gp_analyse.specs.Reports.{text_with as analysis_with, text_of as analysis_of, HasFault}
 use Rattle.gp_analyse.proofs.OneReport.{have_one_report}
 use Rattle.gp_meshlets.specs.Telling.{text_with, text_of, IsMeshletText}
 use Rattle.gp_meshlets.specs.Laws.{HaveOneText}

@@ -1,14 +1,13 @@
 -- Triangle after triangle, and run after run.
-use Rattle.std.proofs.Common.{◌≡◌, ℕ, ◌+◌, ◌*◌, ◌/◌, ◌%◌, ◌<◌, ◌≤◌, Bool, true, false, cond, ◌&&◌, eqb, leb, List, [], ◌∷◌, ◌++◌, map, flat_map, length, drop, refl, sym, ap, subst, ◌∙◌, append_assoc, append-nil, true≢false, length-append, arith}
+use Rattle.std.proofs.Common.{◌≡◌, ℕ, ◌+◌, ◌*◌, ◌/◌, ◌%◌, ◌<◌, ◌≤◌, Bool, true, false, cond, ◌&&◌, eqb, leb, List, [], ◌∷◌, ◌++◌, map, flat_map, length, drop, refl, sym, ap, ◌∙◌, append-nil, true≢false, length-append, arith}
 use Rattle.std.proofs.lemmas.Bool.{le-leb, leb-true}
 use Rattle.std.proofs.lemmas.List.{drop_all}
 use Rattle.gp_merge.proofs.Repeats.{length-without_repeats}
 use Rattle.gp_meshlets.specs.declared.corners.Triangle.{Triangle}
 use Rattle.gp_meshlets.specs.declared.growth.Growing.{Growing}
 use Rattle.gp_meshlets.specs.declared.meshlet.Meshlet.{Meshlet}
-use Rattle.gp_meshlets.specs.Meshlets.{vertices_of, fits, if_some, runs_from, runs, meshlet_of, meshlets}
+use Rattle.gp_meshlets.specs.Meshlets.{vertices_of, fits, runs_from, runs, meshlet_of, meshlets}
 use Rattle.gp_meshlets.specs.Building.{with_triangle, shown, HasRun, IsTaking}
-use Rattle.gp_meshlets.proofs.Vertices.{place_in}
 
 -- what fitting says
 both : (a b : Bool) → (a && b) ≡ true → (a ≡ true) × (b ≡ true)
@@ -48,6 +47,14 @@ more_taken list from at t before now h here fitting has_run = record {
 -- what is shown is the run's meshlet
 pub shows : (run : List ℕ) (now : Growing) → HasRun run now → meshlet_of run ≡ shown now
 shows run now h = rw (h.vertices, h.corners) refl
+
+-- a first triangle fits
+pub one_taken : (list : List ℕ) (from at : ℕ) (t : Triangle) (before : Growing) (h : IsTaking list from at before) → fits (with_triangle h.run t) ≡ false → from < at
+one_taken list from at t before h ended = by h.run refl
+  where
+    by : (run : List ℕ) → h.run ≡ run → from < at
+    by [] e = absurd (true≢false (sym (one_fits t.a t.b t.c) ∙ ap (λ r. fits (with_triangle r t)) (sym e) ∙ ended))
+    by (x ∷ run) e = (let some : length h.run ≡ length run + 1 = ap length e ∙ omega arith in let long = h.long in omega (arith, some, long))
 
 -- a triangle that doesn't fit begins the runs that follow
 begins : (a b c : ℕ) (rest : List ℕ) → runs_from (a ∷ b ∷ c ∷ []) rest ≡ runs (a ∷ b ∷ c ∷ rest)

@@ -1,14 +1,15 @@
 -- Runs with more corners: their vertices, and the places of their corners.
-use Rattle.std.proofs.Common.{◌≡◌, ℕ, ◌+◌, ◌<◌, ◌≤◌, Bool, true, false, cond, ◌||◌, ◌&&◌, eqb, leb, List, [], ◌∷◌, ◌++◌, map, length, get_or, refl, sym, ap, subst, ◌∙◌, length-append, append_assoc, arith}
+use Rattle.std.proofs.Common.{◌≡◌, ℕ, ◌+◌, ◌<◌, ◌≤◌, Bool, true, false, cond, ◌||◌, ◌&&◌, eqb, leb, ltb, List, [], ◌∷◌, ◌++◌, map, length, get_or, refl, sym, ap, subst, ◌∙◌, length-append, append_assoc, arith}
 use Rattle.std.specs.List.{list_any, position_or_len}
-use Rattle.std.proofs.lemmas.Bool.{le-leb}
+use Rattle.std.proofs.lemmas.Bool.{le-leb, lt-ltb, le-ltb}
 use Rattle.std.proofs.lemmas.Cmp.{nat_eq_equiv}
 use Rattle.std.proofs.lemmas.List.{same_lists, length-map, get_or-map, map_push}
 use Rattle.std.proofs.lemmas.List.Folds.{list_any-append, list_any_at}
 use Rattle.gp_merge.proofs.Repeats.{without_repeats-push, list_any-without_repeats, position-front, position-added, position-past, position-within}
 use Rattle.gp_meshlets.specs.declared.growth.Growing.{Growing}
 use Rattle.gp_meshlets.specs.Meshlets.{vertices_of, fits}
-use Rattle.gp_meshlets.specs.Building.{has, with_vertex, one_if_new, count_new, HasRun}
+use Rattle.gp_meshlets.specs.Places.{has, Finds}
+use Rattle.gp_meshlets.specs.Building.{with_vertex, one_if_new, count_new, HasRun}
 
 -- the place of a vertex among those of a run
 abbrev pub place_in : List ℕ → ℕ → ℕ
@@ -40,8 +41,9 @@ places_more run v =
     ∙ ap (λ p. map (place_in run) run ++ p ∷ []) pushed
 
 pub open_more : (run : List ℕ) (v place : ℕ) (before now : Growing) → now.vertices.items ≡ with_vertex before.vertices.items v → place ≡ position_or_len (eqb v) before.vertices.items
-    → now.corners.items ≡ before.corners.items ++ place ∷ [] → HasRun run before → HasRun (run ++ v ∷ []) now
-open_more run v place before now vertices is_place corners h = record {
+    → now.corners.items ≡ before.corners.items ++ place ∷ [] → Finds now.places now.vertices.items → HasRun run before → HasRun (run ++ v ∷ []) now
+open_more run v place before now vertices is_place corners finds h = record {
+  finds = finds;
   vertices = vertices ∙ ap (λ l. with_vertex l v) h.vertices ∙ sym (vertices_more run v);
   corners = corners ∙ ap (λ l. l ++ place ∷ []) h.corners ∙ ap (λ p. map (place_in run) run ++ p ∷ []) (is_place ∙ ap (position_or_len (eqb v)) h.vertices) ∙ sym (places_more run v);
 }
@@ -122,6 +124,22 @@ fits_anyway run a b c growing h corners vertices =
     ∙ fits_then run a b c growing (length growing.corners.items) (length growing.vertices.items) (count_new growing.vertices.items a b c) h refl refl refl corners
 
 -- ---- one vertex more
+
+-- a vertex without a place isn't there
+pub not_there : (vertices : List ℕ) (v : ℕ) → length vertices ≤ position_or_len (eqb v) vertices → has vertices v ≡ false
+not_there vertices v h = by (has vertices v) refl
+  where
+    by : (b : Bool) → has vertices v ≡ b → b ≡ false
+    by true e = (let within = position-within (eqb v) vertices e in absurd (let no : ⊥ = omega (arith, within, h) in no))
+    by false e = refl
+
+-- a vertex is there where it has a place
+pub is_placed : (vertices : List ℕ) (v place : ℕ) → place ≡ position_or_len (eqb v) vertices → ltb place (length vertices) ≡ has vertices v
+is_placed vertices v place is = by (has vertices v) refl
+  where
+    by : (b : Bool) → has vertices v ≡ b → ltb place (length vertices) ≡ b
+    by true e = (let within = position-within (eqb v) vertices e in lt-ltb place (length vertices) (omega (arith, is, within)))
+    by false e = (let past = position-past (eqb v) vertices e in le-ltb place (length vertices) (omega (arith, is, past)))
 
 pub seen_there : (vertices : List ℕ) (v : ℕ) → position_or_len (eqb v) vertices < length vertices → vertices ≡ with_vertex vertices v
 seen_there vertices v h = by (has vertices v) refl

@@ -1,14 +1,11 @@
 -- Meshlets on their way. For contracts within the crate; no public contract cites it.
 use Rattle.std.specs.Prelude.{◌≡◌, ℕ, ◌+◌, ◌*◌, Bool, true, false, ◌||◌, ◌==◌, nat_eq, if◌then◌else◌, List, [], ◌∷◌, ◌++◌, length, map, drop}
-use Rattle.std.specs.List.{list_any, position_or_len}
+use Rattle.std.specs.List.{position_or_len}
 use Rattle.gp_meshlets.specs.declared.corners.Triangle.{Triangle}
 use Rattle.gp_meshlets.specs.declared.growth.Growing.{Growing}
 use Rattle.gp_meshlets.specs.declared.meshlet.Meshlet.{Meshlet}
+use Rattle.gp_meshlets.specs.Places.{has, Finds}
 use Rattle.gp_meshlets.specs.Meshlets.{vertices_of, fits, runs_from, runs}
-
--- the vertex is among these
-abbrev pub has : List ℕ → ℕ → Bool
-has vertices vertex = list_any (nat_eq vertex) vertices
 
 -- these with one vertex more, where it isn't there
 abbrev pub with_vertex : List ℕ → ℕ → List ℕ
@@ -28,6 +25,7 @@ count_new vertices a b c =
 -- the open meshlet is that of the run
 pub record HasRun (run : List ℕ) (growing : Growing) : Type 0 where
   pub vertices : growing.vertices.items ≡ vertices_of run
+  pub finds : Finds growing.places growing.vertices.items
   pub corners : growing.corners.items ≡ map (λ v. position_or_len (nat_eq v) (vertices_of run)) run
 
 -- a run with a triangle more

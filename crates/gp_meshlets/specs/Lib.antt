@@ -1,4 +1,5 @@
 pub mod Meshlets
+pub mod Places
 pub mod Building
 pub mod Corners
 pub mod Laws

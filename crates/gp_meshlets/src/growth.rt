@@ -2,10 +2,12 @@
 ghost use Rattle.std.specs.Prelude.{◌≡◌, ◌+◌, ◌≤◌, ◌++◌, ◌∷◌, [], ℕ, List, true, length, nat_eq, OnOk, IfOk};
 ghost use Rattle.std.specs.List.{position_or_len};
 ghost use Rattle.gp_meshlets.specs.Meshlets.{fits};
-ghost use Rattle.gp_meshlets.specs.Building.{has, with_vertex, count_new, shown, HasRun, IsTaken};
+ghost use Rattle.gp_meshlets.specs.Places.{has, Finds};
+ghost use Rattle.gp_meshlets.specs.Building.{with_vertex, count_new, shown, HasRun, IsTaken};
 
 use crate::corners::Triangle;
 use crate::meshlet::Meshlet;
+use crate::places::Places;
 use gp_host::{NoMemory, Numbers};
 use std::alloc::Global;
 
@@ -19,6 +21,7 @@ const MOST_CORNERS: usize = 3 * 126;
 #[derive(Drop)]
 pub(crate) struct Growing {
     pub(crate) vertices: Vec<u32>,
+    pub(crate) places: Places,
     pub(crate) corners: Vec<u32>,
 }
 
@@ -29,6 +32,7 @@ impl Growing {
     {
         Growing {
             vertices: Vec::new(alloc),
+            places: Places::new(),
             corners: Vec::new(alloc),
         }
     }
@@ -38,6 +42,7 @@ impl Growing {
         ensures { HasRun [] self.new }
     {
         self.vertices.clear();
+        self.places.clear();
         self.corners.clear();
     }
 
@@ -59,6 +64,7 @@ impl Growing {
     // Whether it fits with this triangle added. Where there is room for three vertices none is looked for.
     fn fits_with(&self, a: u32, b: u32, c: u32) -> bool
         requires vertices { length self.now.vertices.items ≤ 64 }
+        requires finds { Finds self.now.places self.now.vertices.items }
         requires corners { length self.now.corners.items ≤ 378 }
         ensures { (run : List ℕ) → HasRun run self.now → result ≡ fits (run ++ a ∷ b ∷ c ∷ []) }
     {
@@ -68,19 +74,41 @@ impl Growing {
         if self.vertices.len() + 3 <= MOST_VERTICES {
             return true;
         }
-        let new = count_new(&self.vertices, a, b, c);
+        let new = self.count_new(a, b, c);
         self.vertices.len() + new <= MOST_VERTICES
     }
 
     // Adds a corner, and its vertex if that isn't there.
     fn add(&mut self, vertex: u32) -> Result<(), NoMemory>
-        requires { length self.old.vertices.items ≤ 66 }
+        requires few { length self.old.vertices.items ≤ 66 }
+        requires finds { Finds self.old.places self.old.vertices.items }
+        ensures finds { OnOk result (Finds self.new.places self.new.vertices.items) }
         ensures few { OnOk result (length self.new.vertices.items ≤ length self.old.vertices.items + 1) }
         ensures more { OnOk result ((run : List ℕ) → HasRun run self.old → HasRun (run ++ vertex ∷ []) self.new) }
     {
-        let place = see(&mut self.vertices, vertex)?;
+        let place = see(&mut self.vertices, &mut self.places, vertex)?;
         self.corners.push(place)?;
         Ok(())
+    }
+
+    // How many vertices a triangle adds.
+    fn count_new(&self, a: u32, b: u32, c: u32) -> usize
+        requires { Finds self.now.places self.now.vertices.items }
+        ensures meaning { result ≡ count_new self.now.vertices.items a b c }
+        ensures few { result ≤ 3 }
+    {
+        let first = !self.has(a);
+        let second = !(self.has(b) || b == a);
+        let third = !(self.has(c) || c == a || c == b);
+        first as usize + second as usize + third as usize
+    }
+
+    // Whether the vertex is there.
+    fn has(&self, vertex: u32) -> bool
+        requires { Finds self.now.places self.now.vertices.items }
+        ensures { result ≡ has self.now.vertices.items vertex }
+    {
+        self.places.find(&self.vertices, vertex) < self.vertices.len()
     }
 
     /// The meshlet as it stands.
@@ -97,47 +125,19 @@ impl Growing {
 }
 
 // Adds the vertex, if it isn't there. Its place.
-fn see(vertices: &mut Vec<u32>, vertex: u32) -> Result<u32, NoMemory>
-    requires { length vertices.old.items ≤ 66 }
+fn see(vertices: &mut Vec<u32>, places: &mut Places, vertex: u32) -> Result<u32, NoMemory>
+    requires few { length vertices.old.items ≤ 66 }
+    requires finds { Finds places.old vertices.old.items }
+    ensures finds { OnOk result (Finds places.new vertices.new.items) }
     ensures few { OnOk result (length vertices.new.items ≤ length vertices.old.items + 1) }
     ensures place { IfOk result (λ place. place ≡ position_or_len (nat_eq vertex) vertices.old.items) }
     ensures vertices { OnOk result (vertices.new.items ≡ with_vertex vertices.old.items vertex) }
 {
-    let place = place_of(vertices, vertex);
+    let place = places.find(vertices, vertex);
     if place < vertices.len() {
         return Ok(place as u32);
     }
     vertices.push(vertex)?;
+    places.note(vertex, place);
     Ok(place as u32)
-}
-
-// How many vertices a triangle adds to these.
-fn count_new(vertices: &[u32], a: u32, b: u32, c: u32) -> usize
-    ensures meaning { result ≡ count_new vertices.now a b c }
-    ensures few { result ≤ 3 }
-{
-    let first = !has(vertices, a);
-    let second = !(has(vertices, b) || b == a);
-    let third = !(has(vertices, c) || c == a || c == b);
-    first as usize + second as usize + third as usize
-}
-
-// Whether the vertex is among these.
-fn has(vertices: &[u32], vertex: u32) -> bool
-    ensures { result ≡ has vertices.now vertex }
-{
-    vertices.iter().any(|other| vertex == *other)
-}
-
-// The first place of the vertex, or how many there are.
-fn place_of(vertices: &[u32], vertex: u32) -> usize
-    ensures place { result ≡ position_or_len (nat_eq vertex) vertices.now }
-    ensures few { result ≤ length vertices.now }
-{
-    'places: for at in 0..vertices.len() {
-        if vertex == vertices[at] {
-            return at;
-        }
-    }
-    vertices.len()
 }

@@ -20,6 +20,7 @@ mod growth;
 pub mod laws;
 mod listing;
 mod meshlet;
+mod places;
 mod reading;
 mod telling;
 #[cfg(test)]

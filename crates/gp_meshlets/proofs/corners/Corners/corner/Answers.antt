@@ -1,4 +1,4 @@
-use Rattle.std.proofs.Common.{◌≡◌, ◌<◌, length, subst, arith}
+use Rattle.std.proofs.Common.{◌<◌, length, subst, arith}
 use Rattle.gp_meshlets.specs.Corners.{corners_of}
 use Rattle.gp_meshlets.proofs.Triangles.{rising_within, rising_corner}
 use Rattle.gp_meshlets.proofs.corners.Corners.corner.Goals as goal

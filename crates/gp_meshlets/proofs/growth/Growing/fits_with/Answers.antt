@@ -1,5 +1,4 @@
-use Rattle.std.proofs.Common.{length, refl, ◌∙◌, ap, arith}
-use Rattle.gp_meshlets.specs.Building.{count_new}
+use Rattle.std.proofs.Common.{length, refl, arith}
 use Rattle.gp_meshlets.proofs.Vertices.{fits_then, fits_anyway}
 use Rattle.gp_meshlets.proofs.growth.Growing.fits_with.Goals as goal
 
@@ -10,4 +9,4 @@ returns-then-len-le-MOST_VERTICES c run h =
 pub returns : goal.returns
 returns c run h =
     fits_then run c.args.a c.args.b c.args.c c.args.self.now (length c.args.self.now.corners.items) _ _ h refl (omega arith)
-    (c.count_new-new.ensures.meaning ∙ ap (λ l. count_new l c.args.a c.args.b c.args.c) c.deref.ensures.value) (omega (arith, c.if-len-gt-MOST_CORNERS.false))
+    c.count_new-new.ensures.meaning (omega (arith, c.if-len-gt-MOST_CORNERS.false))

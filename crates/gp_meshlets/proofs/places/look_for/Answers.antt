@@ -1,7 +1,7 @@
 use Rattle.std.proofs.Common.{eqb, length, get_or, sym, arith}
 use Rattle.std.proofs.lemmas.Bool.{eq-eqb}
 use Rattle.std.proofs.lemmas.List.Sums.{position_or_len_is}
-use Rattle.gp_meshlets.proofs.growth.place_of.Goals as goal
+use Rattle.gp_meshlets.proofs.places.look_for.Goals as goal
 
 pub returns-then-vertex-vertices-clause-place : goal.returns-then-vertex-vertices-clause-place
 returns-then-vertex-vertices-clause-place c =

@@ -1,5 +1,5 @@
 use Rattle.std.proofs.Common.{◌≡◌, ℕ, ◌<◌, eqb, get_or, false}
-use Rattle.gp_meshlets.proofs.growth.place_of.Given as goal
+use Rattle.gp_meshlets.proofs.places.look_for.Given as goal
 
 -- none of the places so far is the vertex's
 abbrev pub invariant-places : goal.invariant-places
