@@ -1,6 +1,7 @@
 // Varints, read and written.
-ghost use Rattle.std.specs.Prelude.{◌≡◌, ℕ, ◌≤◌, List, ◌++◌, length, IfOk, OnOk, Ok};
+ghost use Rattle.std.specs.Prelude.{◌≡◌, ℕ, ◌≤◌, List, ◌++◌, length, IfOk, OnOk, OnErr, Ok};
 ghost use Rattle.gp_groups.specs.Varint.{spelled, varint};
+ghost use Rattle.gp_sequence.specs.Appending.{GrewByFront};
 
 use arrayvec::ArrayVec;
 use gp_groups::StreamFault;
@@ -49,10 +50,12 @@ pub fn write_varint(value: u32) -> ArrayVec<u8, 5>
     bytes
 }
 
-/// Appends the shortest varint of a value, as `write_varint` (EXT_meshopt_compression, modes 1 and 2). It fails only for want of memory.
+/// Appends the shortest varint of a value, as `write_varint` (EXT_meshopt_compression, modes 1 and 2). It fails only for want of memory,
+/// and some of the varint's bytes may then stand there.
 // It has a loop of its own: with the array of `write_varint` copied behind the bytes, the encoders take twice as long.
 pub fn append_varint(bytes: &mut Vec<u8>, value: u32) -> Result<(), NoMemory>
-    ensures { OnOk result (bytes.new.items ≡ bytes.old.items ++ spelled value) }
+    ensures appended { OnOk result (bytes.new.items ≡ bytes.old.items ++ spelled value) }
+    ensures front { OnErr result (GrewByFront bytes.old.items bytes.new.items (spelled value)) }
 {
     let mut rest = value;
     'digits: while rest >= 128 {

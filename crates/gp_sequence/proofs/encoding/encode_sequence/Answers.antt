@@ -6,7 +6,7 @@ use Rattle.gp_sequence.proofs.encoding.encode_sequence.Goals as goal
 
 pub indices-preserved : goal.indices-preserved
 indices-preserved c = record {
-  so_far = rw c.in_ok-append_varint.ensures (next_written c.args.indices.now _ c.indices.bytes.items (spelled c.next_value-value.result) c.indices.k c.indices.baselines.number c.indices.baselines.used c.indices.baselines.other c.next_value-value.new.self.number c.next_value-value.new.self.used c.next_value-value.new.self.other c.indices-test.true c.indices.invariant.so_far c.next_value-value.ensures.value);
+  so_far = rw c.in_ok-append_varint.ensures.appended (next_written c.args.indices.now _ c.indices.bytes.items (spelled c.next_value-value.result) c.indices.k c.indices.baselines.number c.indices.baselines.used c.indices.baselines.other c.next_value-value.new.self.number c.next_value-value.new.self.used c.next_value-value.new.self.other c.indices-test.true c.indices.invariant.so_far c.next_value-value.ensures.value);
   number = c.next_value-value.ensures.number;
   used = c.next_value-value.ensures.used;
   other = c.next_value-value.ensures.other;
