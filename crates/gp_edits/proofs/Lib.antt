@@ -26,5 +26,6 @@ pub mod PackCommon
 pub mod PackSounds
 pub mod OneMore
 pub mod Own
+pub mod InPart
 pub mod Unchanged
 mod Examples

@@ -1,11 +1,11 @@
 -- Each edit changes its own members alone.
 use Rattle.std.specs.Prelude.{if◌then◌else◌, unwrap_or}
-use Rattle.std.proofs.Common.{◌≡◌, ℕ, Bool, true, false, not, ◌||◌, ◌&&◌, List, [], ◌∷◌, ◌++◌, filter, Option, Some, None, refl, sym, ap, ◌∙◌, subst}
+use Rattle.std.proofs.Common.{◌≡◌, ℕ, Bool, true, false, not, ◌||◌, ◌&&◌, List, [], ◌∷◌, ◌++◌, filter, Option, Some, None, codes, refl, sym, ap, ◌∙◌, subst}
 use Rattle.gp_tree.specs.Plain.{PlainTree, null, truth, number, text, list, members, no_items, item, no_members, member}
 use Rattle.gp_tree.specs.Sound.{HasDistinctKeys}
 use Rattle.gp_tree.specs.Find.{PlainMember, IsObject, is_named, item_list, member_list, find_member}
 use Rattle.gp_tree.specs.Values.{IsName}
-use Rattle.gp_tree.specs.TreeEdits.{set_first, with_members, with_member, without, and_items}
+use Rattle.gp_tree.specs.TreeEdits.{set_first, change_first, at_member, with_members, with_member, without, and_items}
 use Rattle.gp_tree.proofs.Edited.{items_of}
 use Rattle.gp_tree.proofs.Firsts.{list_of}
 use Rattle.gp_tree.proofs.Kept.{find_set}
@@ -24,13 +24,13 @@ use Rattle.gp_edits.proofs.KeyNames.{extensions_key, used_key, required_key, buf
 -- ---- names
 
 -- each spelling of a name is one of theirs
-abbrev Covers : List (List ℕ) → List ℕ → Type 0
+abbrev pub Covers : List (List ℕ) → List ℕ → Type 0
 Covers names key = (s : List ℕ) → is_named key s ≡ true → is_one_of names s ≡ true
 
-first_covered : (key : List ℕ) (names : List (List ℕ)) → Covers (key ∷ names) key
+pub first_covered : (key : List ℕ) (names : List (List ℕ)) → Covers (key ∷ names) key
 first_covered key names s n = ap (λ b. b || is_one_of names s) n
 
-second_covered : (other key : List ℕ) (names : List (List ℕ)) → Covers (other ∷ key ∷ names) key
+pub second_covered : (other key : List ℕ) (names : List (List ℕ)) → Covers (other ∷ key ∷ names) key
 second_covered other key names s n = or_right (is_named other s) (is_one_of (key ∷ names) s) (first_covered key names s n)
 
 -- ---- lists of members
@@ -70,6 +70,17 @@ set_left : (names : List (List ℕ)) (k : List ℕ) (v : PlainTree) (ms : List P
 set_left names k v [] c own = put_left names k (Some v) [] (c k own)
 set_left names k v (m ∷ ms) c own = set_step (is_named k m.0) names k v m ms refl c (set_left names k v ms c own)
 
+change_step : (b : Bool) (names : List (List ℕ)) (k : List ℕ) (f : PlainTree → PlainTree) (m : PlainMember) (ms : List PlainMember)
+    → is_named k m.0 ≡ b → Covers names k → left names (change_first k f ms) ≡ left names ms
+    → left names (change_first k f (m ∷ ms)) ≡ left names (m ∷ ms)
+change_step true names k f m ms n c ih = let own = c m.0 n in rw n (put_left names m.0 (Some (f m.1)) ms own ∙ sym (put_left names m.0 (Some m.1) ms own))
+change_step false names k f m ms n c ih = rw n (rest_left (is_one_of names m.0) names m (change_first k f ms) ms refl ih)
+
+change_left : (names : List (List ℕ)) (k : List ℕ) (f : PlainTree → PlainTree) (ms : List PlainMember) → Covers names k
+    → left names (change_first k f ms) ≡ left names ms
+change_left names k f [] c = refl
+change_left names k f (m ∷ ms) c = change_step (is_named k m.0) names k f m ms refl c (change_left names k f ms c)
+
 -- ---- values
 
 with_others : (names : List (List ℕ)) (f : List PlainMember → List PlainMember) (t : PlainTree)
@@ -93,14 +104,14 @@ with_same : (names : List (List ℕ)) (f : List PlainMember → List PlainMember
     → ((ms : List PlainMember) → left names (f ms) ≡ left names ms) → IsSameBut names t (with_members f t)
 with_same names f t h = record { others = with_others names f t h; object = object_after f t; value = no_object f t }
 
-altered : (names : List (List ℕ)) (k : List ℕ) (g : PlainTree → Option PlainTree) (t : PlainTree) → Covers names k → IsSameBut names t (alter k g t)
+pub altered : (names : List (List ℕ)) (k : List ℕ) (g : PlainTree → Option PlainTree) (t : PlainTree) → Covers names k → IsSameBut names t (alter k g t)
 altered names k g t c = with_same names (alter_first k g) t (λ ms. alter_left names k g ms c)
 
-was_set : (names : List (List ℕ)) (k : List ℕ) (v t : PlainTree) → Covers names k → IsOwn k → IsSameBut names t (with_member k v t)
+pub was_set : (names : List (List ℕ)) (k : List ℕ) (v t : PlainTree) → Covers names k → IsOwn k → IsSameBut names t (with_member k v t)
 was_set names k v t c own = with_same names (set_first k v) t (λ ms. set_left names k v ms c own)
 
 -- one change after another
-joined : (names : List (List ℕ)) (t u w : PlainTree) → IsSameBut names t u → IsSameBut names u w → IsSameBut names t w
+pub joined : (names : List (List ℕ)) (t u w : PlainTree) → IsSameBut names t u → IsSameBut names u w → IsSameBut names t w
 joined names t u w first second = record {
   others = second.others ∙ first.others;
   object = λ o. second.object (first.object o);
@@ -214,6 +225,11 @@ compressed_extensions c v =
     (default_asked (others_of own_name) change (members no_members) found same refl)
 
 -- ---- the root
+
+pub views_own : (f : PlainTree → PlainTree) (t : PlainTree) → IsSameBut (codes "bufferViews" ∷ []) t (at_member (codes "bufferViews") f t)
+views_own f t =
+    let names = codes "bufferViews" ∷ [] in
+    with_same names (change_first (codes "bufferViews") f) t (λ ms. change_left names (codes "bufferViews") f ms (first_covered (codes "bufferViews") []))
 
 pub one_buffer_own : (length : ℕ) (t : PlainTree) → IsSameBut (buffers_key ∷ []) t (with_one_buffer length t)
 unfolding with_one_buffer

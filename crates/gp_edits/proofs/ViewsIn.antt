@@ -1,5 +1,5 @@
 -- The list of views, changed inside the root.
-use Rattle.std.proofs.Common.{◌≡◌, ◌↔◌, IsTrue, ℕ, Bool, true, false, List, [], ◌∷◌, Option, Some, Result, Ok, Err, OnOk, refl, sym, ap, ◌∙◌, subst}
+use Rattle.std.proofs.Common.{◌≡◌, ◌↔◌, IsTrue, ℕ, Bool, true, false, List, [], ◌∷◌, Option, Some, Result, Ok, Err, OnOk, OnErr, refl, sym, ap, ◌∙◌, subst}
 use Rattle.gp_tree.specs.Plain.{PlainTree, null, truth, number, text, list, members, plain, plain_trees, plain_members, trees_of, members_of}
 use Rattle.gp_tree.specs.Find.{PlainMember, IsList, IsObject, item_list, member_list, is_named, value_of, find_member}
 use Rattle.gp_tree.specs.TreeEdits.{change_first, at_member, with_items}
@@ -15,6 +15,16 @@ use Rattle.gp_edits.specs.Changes.{change_each, applied, IsListIn}
 pub on_ok : {A E : Type 0} (r : Result A E) {P Q : Type 0} → OnOk r P → (P → Q) → OnOk r Q
 on_ok (Ok a) p f = f p
 on_ok (Err e) p f = tt
+
+-- and of a failure
+pub on_err : {A E : Type 0} (r : Result A E) {P Q : Type 0} → OnErr r P → (P → Q) → OnErr r Q
+on_err (Ok a) p f = tt
+on_err (Err e) p f = f p
+
+-- what holds in any case
+pub if_err : {A E : Type 0} (r : Result A E) {P : Type 0} → P → OnErr r P
+if_err (Ok a) p = tt
+if_err (Err e) p = p
 
 pub views_written : (v : Members) (name : List ℕ) (t : Tree) (before after : Trees) (es : List (PlainTree → PlainTree))
     → value_of name (member_list (plain_members v)) ≡ Some (plain t) → t ≡ a_list before

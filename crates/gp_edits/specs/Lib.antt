@@ -8,3 +8,4 @@ pub mod PackLaws
 pub mod ReadingBack
 pub mod PackedBack
 pub mod Own
+pub mod InPart

@@ -1,5 +1,5 @@
 // The buffers of an asset (glTF 2.0, section 5.10).
-ghost use Rattle.std.specs.Prelude.{◌≡◌, IfOk, OnOk};
+ghost use Rattle.std.specs.Prelude.{◌≡◌, IfOk, OnOk, OnErr};
 ghost use Rattle.gp_tree.specs.Plain.{plain};
 ghost use Rattle.gp_edits.specs.Edits.{sized_buffer, fallback_buffer, with_one_buffer, with_two_buffers, with_buffers_of};
 
@@ -8,14 +8,15 @@ use gp_tree::Tree;
 use std::alloc::Global;
 
 /// Gives an asset the buffers of its views: none, one of this length for their bytes, or also one of another length to
-/// fall back on.
+/// fall back on. After `Err` the tree is as before.
 pub fn set_buffers(
     alloc: Global,
     root: &mut Tree,
     length: Option<u64>,
     fallback: Option<u64>,
 ) -> Result<(), NoMemory>
-    ensures { OnOk result (plain root.new ≡ with_buffers_of length fallback (plain root.old)) }
+    ensures set { OnOk result (plain root.new ≡ with_buffers_of length fallback (plain root.old)) }
+    ensures stays { OnErr result (plain root.new ≡ plain root.old) }
 {
     match (length, fallback) {
         (None, _) => {
@@ -30,7 +31,8 @@ pub fn set_buffers(
 // Makes a buffer of this many bytes the one buffer of an asset.
 #[tactic(auto, unfolding(crate::specs::Edits::with_one_buffer))]
 fn set_one_buffer(alloc: Global, root: &mut Tree, length: u64) -> Result<(), NoMemory>
-    ensures { OnOk result (plain root.new ≡ with_one_buffer length (plain root.old)) }
+    ensures set { OnOk result (plain root.new ≡ with_one_buffer length (plain root.old)) }
+    ensures stays { OnErr result (plain root.new ≡ plain root.old) }
 {
     let mut buffers = Tree::list(alloc);
     buffers.append(sized_buffer(alloc, length)?)?;
@@ -45,7 +47,8 @@ fn set_two_buffers(
     length: u64,
     fallback: u64,
 ) -> Result<(), NoMemory>
-    ensures { OnOk result (plain root.new ≡ with_two_buffers length fallback (plain root.old)) }
+    ensures set { OnOk result (plain root.new ≡ with_two_buffers length fallback (plain root.old)) }
+    ensures stays { OnErr result (plain root.new ≡ plain root.old) }
 {
     let mut buffers = Tree::list(alloc);
     buffers.append(sized_buffer(alloc, length)?)?;

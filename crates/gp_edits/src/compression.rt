@@ -1,5 +1,5 @@
 // The extension object of a compressed buffer view (EXT_meshopt_compression).
-ghost use Rattle.std.specs.Prelude.{◌≡◌, IfOk, OnOk, IsSome, codes};
+ghost use Rattle.std.specs.Prelude.{◌≡◌, IfOk, OnOk, OnErr, IsSome, codes};
 ghost use Rattle.gp_tree.specs.Plain.{plain, members, no_members};
 ghost use Rattle.gp_tree.specs.Find.{find_member};
 ghost use Rattle.gp_tree.specs.TreeEdits.{with_member, at_member};
@@ -26,13 +26,15 @@ pub struct Compression {
     pub mode: StreamMode,
 }
 
-/// Gives a view this extension object, beside its other extensions. One that it has is replaced.
+/// Gives a view this extension object, beside its other extensions. One that it has is replaced. After `Err` the view is as
+/// before.
 pub fn compress_view(
     alloc: Global,
     view: &mut Tree,
     compression: Compression,
 ) -> Result<(), NoMemory>
-    ensures { OnOk result (plain view.new ≡ compressed compression (plain view.old)) }
+    ensures compressed { OnOk result (plain view.new ≡ compressed compression (plain view.old)) }
+    ensures stays { OnErr result (plain view.new ≡ plain view.old) }
 {
     let object = compression_object(alloc, compression)?;
     if view.find("extensions").is_none() {
@@ -44,8 +46,9 @@ pub fn compress_view(
 // Puts an extension object into the extensions of a view.
 fn set_extension(alloc: Global, view: &mut Tree, object: Tree) -> Result<(), NoMemory>
     requires { IsSome (find_member (codes "extensions") (plain view.old)) }
-    ensures { OnOk result (plain view.new ≡ at_member (codes "extensions")
+    ensures set { OnOk result (plain view.new ≡ at_member (codes "extensions")
         (with_member extension_name (plain object)) (plain view.old)) }
+    ensures stays { OnErr result (plain view.new ≡ plain view.old) }
 {
     view.members_mut()
         .find_mut("extensions")
@@ -54,8 +57,9 @@ fn set_extension(alloc: Global, view: &mut Tree, object: Tree) -> Result<(), NoM
 
 // Gives a view this extension object as its one extension.
 fn add_extension(alloc: Global, view: &mut Tree, object: Tree) -> Result<(), NoMemory>
-    ensures { OnOk result (plain view.new ≡ with_member (codes "extensions")
+    ensures set { OnOk result (plain view.new ≡ with_member (codes "extensions")
         (with_member extension_name (plain object) (members no_members)) (plain view.old)) }
+    ensures stays { OnErr result (plain view.new ≡ plain view.old) }
 {
     let mut extensions = Tree::object(alloc);
     extensions.set(alloc, "EXT_meshopt_compression", object)?;

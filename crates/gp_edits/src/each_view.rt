@@ -1,9 +1,10 @@
 // A change of each buffer view (glTF 2.0, section 5.11).
-ghost use Rattle.std.specs.Prelude.{◌≡◌, ◌<◌, List, length, slice_get, codes, IfSome, IsTrue, ◌↔◌, OnOk};
+ghost use Rattle.std.specs.Prelude.{◌≡◌, ◌<◌, List, length, slice_get, codes, IfSome, IsTrue, ◌↔◌, OnOk, OnErr};
 ghost use Rattle.gp_tree.specs.Plain.{PlainTree, plain, plain_trees, trees_of};
 ghost use Rattle.gp_tree.specs.Find.{item_list, find_member};
 ghost use Rattle.gp_tree.specs.TreeEdits.{at_member, with_items};
 ghost use Rattle.gp_edits.specs.Changes.{change_each, applied, IsListIn};
+ghost use Rattle.gp_edits.specs.InPart.{IsViewEditedInPart, AreViewsEditedInPart};
 
 use gp_host::NoMemory;
 use gp_tree::{Tree, Trees};
@@ -14,14 +15,16 @@ pub trait ViewEdits {
     /// Those changes.
     ghost edits: { Self → List (PlainTree → PlainTree) };
 
-    /// Makes change `at` in a view.
+    /// Makes change `at` in a view. After `Err` the view has all its members as before but `buffer`, `byteOffset` and
+    /// `extensions`.
     fn edit(&self, alloc: Global, at: usize, view: &mut Tree) -> Result<(), NoMemory>
         requires { at < length (edits self.now) }
-        ensures { OnOk result (IfSome (slice_get (edits self.now) at) (λ change. plain view.new ≡ change (plain view.old))) };
+        ensures changed { OnOk result (IfSome (slice_get (edits self.now) at) (λ change. plain view.new ≡ change (plain view.old))) }
+        ensures others { OnErr result (IsViewEditedInPart (plain view.old) (plain view.new)) };
 }
 
 /// Makes the first `count` changes, all there are, each in the view with its number; views past them stay, and so does an
-/// asset without views.
+/// asset without views. After `Err` all members but `bufferViews` are as before.
 pub fn edit_views<E: ViewEdits>(
     alloc: Global,
     root: &mut Tree,
@@ -29,8 +32,9 @@ pub fn edit_views<E: ViewEdits>(
     count: usize,
 ) -> Result<(), NoMemory>
     requires { length (E.edits edits.now) ≡ count }
-    ensures { OnOk result (plain root.new ≡ at_member (codes "bufferViews")
+    ensures changed { OnOk result (plain root.new ≡ at_member (codes "bufferViews")
         (with_items (change_each applied (E.edits edits.now))) (plain root.old)) }
+    ensures others { OnErr result (AreViewsEditedInPart (plain root.old) (plain root.new)) }
 {
     if !has_list(root, "bufferViews") {
         return Ok(());

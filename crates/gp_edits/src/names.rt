@@ -1,9 +1,10 @@
 // The names of the extensions that an asset uses (glTF 2.0, section 3.12).
-ghost use Rattle.std.specs.Prelude.{◌≡◌, ◌↔◌, IsTrue, IsSome, not, filter, OnOk, ◌∷◌, []};
+ghost use Rattle.std.specs.Prelude.{◌≡◌, ◌↔◌, IsTrue, IsSome, not, filter, OnOk, OnErr, ◌∷◌, []};
 ghost use Rattle.gp_tree.specs.Plain.{plain, plain_trees, trees_of, list, no_items};
 ghost use Rattle.gp_tree.specs.Find.{IsList, find_member, item_list};
 ghost use Rattle.gp_tree.specs.TreeEdits.{at_member, with_member, and_items};
 ghost use Rattle.gp_edits.specs.Changes.{is_text_named, without_text};
+ghost use Rattle.gp_edits.specs.InPart.{IsNamedInPart};
 ghost use Rattle.gp_edits.specs.Edits.{extension_name, without_name_in, without_extension_named, with_name_in, with_extension_named};
 
 use crate::emptying::{is_empty_member, remove_emptied};
@@ -78,10 +79,12 @@ fn is_extension_name(value: &Tree) -> bool
     }
 }
 
-/// Puts the name of the extension at the end of both lists, each of which is made where it isn't there.
+/// Puts the name of the extension at the end of both lists, each of which is made where it isn't there. After `Err` the tree is as
+/// before, or has the name in the first of them, `extensionsUsed`.
 #[tactic(auto, unfolding(crate::specs::Edits::with_extension_named))]
 pub fn add_extension_names(alloc: Global, root: &mut Tree) -> Result<(), NoMemory>
-    ensures { OnOk result (plain root.new ≡ with_extension_named (plain root.old)) }
+    ensures named { OnOk result (plain root.new ≡ with_extension_named (plain root.old)) }
+    ensures part { OnErr result (IsNamedInPart (plain root.old) (plain root.new)) }
 {
     add_name_in(alloc, root, "extensionsUsed")?;
     add_name_in(alloc, root, "extensionsRequired")
@@ -89,7 +92,8 @@ pub fn add_extension_names(alloc: Global, root: &mut Tree) -> Result<(), NoMemor
 
 // Puts the name at the end of one of the lists.
 fn add_name_in(alloc: Global, root: &mut Tree, key: &str) -> Result<(), NoMemory>
-    ensures { OnOk result (plain root.new ≡ with_name_in key.now (plain root.old)) }
+    ensures named { OnOk result (plain root.new ≡ with_name_in key.now (plain root.old)) }
+    ensures stays { OnErr result (plain root.new ≡ plain root.old) }
 {
     let name = Tree::text(alloc, "EXT_meshopt_compression")?;
     if root.find(key).is_none() {
@@ -101,14 +105,16 @@ fn add_name_in(alloc: Global, root: &mut Tree, key: &str) -> Result<(), NoMemory
 // Puts a value at the end of the list that a member holds.
 fn append_in(root: &mut Tree, key: &str, value: Tree) -> Result<(), NoMemory>
     requires { IsSome (find_member key.now (plain root.old)) }
-    ensures { OnOk result (plain root.new ≡ at_member key.now (and_items (plain value ∷ [])) (plain root.old)) }
+    ensures appended { OnOk result (plain root.new ≡ at_member key.now (and_items (plain value ∷ [])) (plain root.old)) }
+    ensures stays { OnErr result (plain root.new ≡ plain root.old) }
 {
     root.members_mut().find_mut(key).append(value)
 }
 
 // Makes a list of one value a member.
 fn add_list(alloc: Global, root: &mut Tree, key: &str, value: Tree) -> Result<(), NoMemory>
-    ensures { OnOk result (plain root.new ≡ with_member key.now (and_items (plain value ∷ []) (list no_items)) (plain root.old)) }
+    ensures added { OnOk result (plain root.new ≡ with_member key.now (and_items (plain value ∷ []) (list no_items)) (plain root.old)) }
+    ensures stays { OnErr result (plain root.new ≡ plain root.old) }
 {
     let mut values = Tree::list(alloc);
     values.append(value)?;

@@ -10,7 +10,7 @@ item_mut-requires g c =
 pub views-preserved : goal.views-preserved
 views-preserved g c =
     one_more _ (plain_trees c.args.views.now) (plain_trees c.views.views) c.views.at (plain c.item_mut.result.now) (plain c.edit.new.view) _ c.views.invariant c.item_mut.ensures.value
-    c.in_ok-edit.ensures (below _ c.args.count _ c.min-most.result c.views.at c.requires c.min-most.ensures c.views-test.true) (c.item_mut.ensures.puts c.edit.new.view)
+    c.in_ok-edit.ensures.changed (below _ c.args.count _ c.min-most.result c.views.at c.requires c.min-most.ensures c.views-test.true) (c.item_mut.ensures.puts c.edit.new.view)
 
 pub returns : goal.returns
 returns g c =

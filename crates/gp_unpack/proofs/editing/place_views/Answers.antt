@@ -16,5 +16,5 @@ edit_views-requires c =
 
 pub returns : goal.returns
 returns c =
-    on_ok c.edit_views.result c.edit_views.ensures (λ made.
+    on_ok c.edit_views.result c.edit_views.ensures.changed (λ made.
     made ∙ ap (λ change. at_member (codes "bufferViews") (with_items change) (plain c.args.root.now)) (all_changes_made plain_view (starts (map length c.args.contents.now))))
