@@ -24,11 +24,12 @@ use Rattle.gp_document.specs.Answers.{IsMade}
 use Rattle.gp_document.specs.declared.output.Output.{Output}
 use Rattle.gp_document.proofs.Written.{holds_written}
 use Rattle.gp_unpack.specs.Contents.{FaultyView, all_contents}
-use Rattle.gp_layout.specs.Row.{laid_buffer, buffer_length}
+use Rattle.gp_layout.specs.Row.{laid_buffer}
 use Rattle.gp_unpack.specs.Unpacked.{unpacked_tree, unpacked, former_streams, made_of, made_with, unpacked_or, unpacking}
 use Rattle.gp_unpack.specs.Kept.{KeepsViews}
 use Rattle.gp_unpack.specs.Laws.{UnpackedKeepsViews}
 use Rattle.gp_unpack.specs.PlainFields.{laid_fields, viewless_fields}
+use Rattle.gp_unpack.proofs.Reordered.{none_as, some_as}
 use Rattle.gp_unpack.proofs.CommonTree.{common_kept}
 use Rattle.gp_unpack.proofs.SoundTree.{unpacked_sound, unpacked_uses_no_more}
 use Rattle.gp_unpack.proofs.Drawn.{asset_holds, rules_hold}
@@ -108,14 +109,13 @@ no_views a e = none_of a.views (sym (length-map a.views (λ (v : View). v.length
 
 -- without a view
 reads_none : (t : PlainTree) (bin : Option (List ℕ)) (a : AssetParts) → IsSound t → asset Any t bin ≡ Ok a → all_contents a ≡ Ok [] → Reads a (unpacked_tree [] t) None []
-unfolding unpacked_tree buffer_length
 reads_none t bin a sound e is =
     let law = viewless_stays_so t bin a [] e is in
     let f = law.0 in
     let count = counted t bin a f [] e is law.1 in
     let none = none_of f.views (sym count) in
     let u = unpacked_tree [] t in
-    let g = none_again [] t f sound.distinct law.1 none count in
+    let g = ap asset_fields (none_as t) ∙ none_again [] t f sound.distinct law.1 none count in
     let b = law.2 u (viewless_fields f) (extensions_in_use u) none g refl (uses t bin a [] sound e) in
     record { parts = b.0; is = b.1; read = b.2; kept = subst (KeepsParts a) (sym b.3) (viewless_keeps (extensions_in_use u) a (no_views a (contents_are_whole Any t bin a [] e is))) }
 
@@ -123,14 +123,13 @@ reads_none t bin a sound e is =
 reads_some : (t : PlainTree) (bin : Option (List ℕ)) (a : AssetParts) (bytes : List ℕ) (others : List (List ℕ)) (more : List ℕ) → IsSound t → asset Any t bin ≡ Ok a
     → all_contents a ≡ Ok (bytes ∷ others) → end (map length (bytes ∷ others)) < 2 ^ 32
     → Reads a (unpacked_tree (bytes ∷ others) t) (Some (laid (bytes ∷ others) ++ more)) (bytes ∷ others)
-unfolding unpacked_tree buffer_length
 reads_some t bin a bytes others more sound e is fits =
     let contents = bytes ∷ others in
     let law = contents_laid_plain t bin a contents e is in
     let f = law.0 in
     let count = counted t bin a f contents e is law.1 in
     let u = unpacked_tree contents t in
-    let g = one_again (end (map length contents)) (starts (map length contents)) t f sound.distinct law.1 fits (starts_counted contents f count) (starts_below (2 ^ 32) 0 (map length contents) fits) in
+    let g = ap asset_fields (some_as bytes others t) ∙ one_again (end (map length contents)) (starts (map length contents)) t f sound.distinct law.1 fits (starts_counted contents f count) (starts_below (2 ^ 32) 0 (map length contents) fits) in
     let b = law.2 u (laid_fields contents f) (extensions_in_use u) more (some_of f.views (length others) (sym count)) g refl (uses t bin a contents sound e) in
     record { parts = b.0; is = b.1; read = b.2; kept = subst (KeepsParts a) (sym b.3) (laid_keeps contents more (extensions_in_use u) a (contents_are_whole Any t bin a contents e is)) }
 

@@ -11,6 +11,7 @@ pub mod Filling
 pub mod Standing
 pub mod Again
 pub mod Plain
+pub mod Reordered
 pub mod CommonTree
 pub mod SoundTree
 pub mod KeptParts

@@ -13,9 +13,13 @@ use Rattle.gp_unpack.specs.Contents.{FaultyView, all_contents}
 
 -- ---- the tree
 
--- the views at the places of their contents, in one buffer for all of them; none where there are no views
+-- the views at the places of their contents, and no name of the extension
+unfoldable pub unpacked_views : List (List ℕ) → PlainTree → PlainTree
+unpacked_views contents root = without_extension_named (with_plain_views (starts (map length contents)) root)
+
+-- in one buffer for all of them; none where there are no views
 unfoldable pub unpacked_tree : List (List ℕ) → PlainTree → PlainTree
-unpacked_tree contents root = without_extension_named (with_buffers_of (buffer_length contents) None (with_plain_views (starts (map length contents)) root))
+unpacked_tree contents root = with_buffers_of (buffer_length contents) None (unpacked_views contents root)
 
 -- ---- the document
 

@@ -4,7 +4,7 @@ ghost use Rattle.gp_tree.specs.Plain.{plain};
 ghost use Rattle.gp_layout.specs.Layout.{starts};
 ghost use Rattle.gp_layout.specs.Row.{buffer_length};
 ghost use Rattle.gp_edits.specs.Edits.{with_plain_views};
-ghost use Rattle.gp_unpack.specs.Unpacked.{unpacked_tree};
+ghost use Rattle.gp_unpack.specs.Unpacked.{unpacked_views, unpacked_tree};
 
 use crate::contents::Contents;
 use gp_edits::{
@@ -38,9 +38,18 @@ impl<'a> ViewEdits for PlainViews<'a> {
 pub(crate) fn edit_tree(alloc: Global, root: &mut Tree, contents: &Contents) -> Result<(), NoMemory>
     ensures { OnOk result (plain root.new ≡ unpacked_tree contents.now (plain root.old)) }
 {
-    place_views(alloc, root, contents)?;
-    set_buffers(alloc, root, buffer_length(contents), None)?;
-    remove_extension_names(alloc, root);
+    edit_unpacked(alloc, root, contents)?;
+    set_buffers(alloc, root, buffer_length(contents), None)
+}
+
+/// Edits the JSON of an asset whose views have these contents but for its `buffers`: each view is plain, at the place of its
+/// contents in one buffer, and the name of the extension is in no list. After want of memory it holds some of these edits.
+#[tactic(auto, unfolding(crate::specs::Unpacked::unpacked_views))]
+pub fn edit_unpacked(alloc: Global, tree: &mut Tree, contents: &Contents) -> Result<(), NoMemory>
+    ensures { OnOk result (plain tree.new ≡ unpacked_views contents.now (plain tree.old)) }
+{
+    place_views(alloc, tree, contents)?;
+    remove_extension_names(alloc, tree);
     Ok(())
 }
 
