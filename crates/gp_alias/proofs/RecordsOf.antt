@@ -78,7 +78,7 @@ length-in base contents acc (Some s) = by_test (is_resolvable acc.count (indices
     by_test true is = rw is (length-resolved base (indices_in contents s) (values_in contents acc s))
     by_test false is = rw is refl
 
-length-items : (a : AssetParts) (contents : List (List ℕ)) (acc : Accessor) → length (items_of a contents acc) ≡ acc.count
+pub length-items : (a : AssetParts) (contents : List (List ℕ)) (acc : Accessor) → length (items_of a contents acc) ≡ acc.count
 length-items a contents acc = length-in (items_in a.views contents acc acc.view) contents acc acc.sparse ∙ length-base a.views contents acc acc.view
 
 hold : (a : AssetParts) (contents : List (List ℕ)) (g : Group) → is_movable a contents g ≡ true
