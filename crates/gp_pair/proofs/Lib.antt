@@ -1,0 +1,9 @@
+pub mod SafeNames
+pub mod Externals
+pub mod Texts
+pub mod Takes
+pub mod Joins
+pub mod Steps
+pub mod OneAnswer
+pub mod Containers
+pub mod Puts

@@ -1,0 +1,11 @@
+use Rattle.std.proofs.Common.{rules, tests}
+use Rattle.std.proofs.lemmas.Iterator.Search.{any_from_yields_List}
+use Rattle.std.proofs.lemmas.Iterator.Splits.{YieldsList-from_slice_split}
+use Rattle.gp_pair.specs.Names.{is_slash, leads_out}
+use Rattle.gp_pair.proofs.names.leads_out.Goals as goal
+
+pub returns : goal.returns
+returns c =
+    any_from_yields_List leads_out _ _ _ c.any.ensures.ran
+    (YieldsList-from_slice_split _ is_slash c.args.name.now c.split.ensures.rest c.split.ensures.done c.split.ensures.closure (λ x r q k. search (rules, tests)))
+    (λ x b q k. search (rules, tests))
