@@ -6,7 +6,7 @@ use Rattle.std.proofs.lemmas.Fmt.{decimal_digit, decimal_step}
 use Rattle.gp_app.specs.Words.{command, is_word, is_digit, is_leading, number_of, sized_sample, AsksFor, CommandsAreAsked}
 use Rattle.gp_app.proofs.Sizes.{chosen, both_true, leads, digit, number_above}
 use Rattle.gp_app.specs.declared.commands.Command.{Command}
-use Rattle.gp_app.specs.declared.commands.Command.TheVariants.{Pack, Unpack, Analyse, Sample, Meshlets}
+use Rattle.gp_app.specs.declared.commands.Command.TheVariants.{Pack, Unpack, Analyse, Sample, Lists, Meshlets}
 
 -- ---- the digits of a number below 1000
 
@@ -90,22 +90,25 @@ digits (a ∷ b ∷ c ∷ d ∷ word) n e = absurd (cc e)
 
 -- ---- the words
 
-asks_one : (word : List ℕ) (b c d e : Bool) (asked : Command)
-    → is_word (codes "pack") word ≡ b → is_word (codes "unpack") word ≡ c → is_word (codes "analyse") word ≡ d → is_word (codes "meshlets") word ≡ e
-    → (if b then Some Pack else if c then Some Unpack else if d then Some Analyse else if e then Some Meshlets else None) ≡ Some asked → AsksFor (word ∷ []) asked
-asks_one word true c d e asked pack unpack analyse meshlets is =
+asks_one : (word : List ℕ) (b c d e f : Bool) (asked : Command)
+    → is_word (codes "pack") word ≡ b → is_word (codes "unpack") word ≡ c → is_word (codes "analyse") word ≡ d → is_word (codes "lists") word ≡ e → is_word (codes "meshlets") word ≡ f
+    → (if b then Some Pack else if c then Some Unpack else if d then Some Analyse else if e then Some Lists else if f then Some Meshlets else None) ≡ Some asked → AsksFor (word ∷ []) asked
+asks_one word true c d e f asked pack unpack analyse lists meshlets is =
     let one : Pack ≡ asked = cc is in
     subst (AsksFor (word ∷ [])) one (ap (λ w. w ∷ []) (same_text word (codes "pack") (sym pack)))
-asks_one word false true d e asked pack unpack analyse meshlets is =
+asks_one word false true d e f asked pack unpack analyse lists meshlets is =
     let one : Unpack ≡ asked = cc is in
     subst (AsksFor (word ∷ [])) one (ap (λ w. w ∷ []) (same_text word (codes "unpack") (sym unpack)))
-asks_one word false false true e asked pack unpack analyse meshlets is =
+asks_one word false false true e f asked pack unpack analyse lists meshlets is =
     let one : Analyse ≡ asked = cc is in
     subst (AsksFor (word ∷ [])) one (ap (λ w. w ∷ []) (same_text word (codes "analyse") (sym analyse)))
-asks_one word false false false true asked pack unpack analyse meshlets is =
+asks_one word false false false true f asked pack unpack analyse lists meshlets is =
+    let one : Lists ≡ asked = cc is in
+    subst (AsksFor (word ∷ [])) one (ap (λ w. w ∷ []) (same_text word (codes "lists") (sym lists)))
+asks_one word false false false false true asked pack unpack analyse lists meshlets is =
     let one : Meshlets ≡ asked = cc is in
     subst (AsksFor (word ∷ [])) one (ap (λ w. w ∷ []) (same_text word (codes "meshlets") (sym meshlets)))
-asks_one word false false false false asked pack unpack analyse meshlets is = absurd (cc is)
+asks_one word false false false false false asked pack unpack analyse lists meshlets is = absurd (cc is)
 
 of_number : (word number : List ℕ) (o : Option ℕ) (asked : Command) → word ≡ codes "sample" → number_of number ≡ o → sized_sample o ≡ Some asked → AsksFor (word ∷ number ∷ []) asked
 of_number word number None asked name is e = absurd (cc e)
@@ -122,7 +125,7 @@ asks : (words : List (List ℕ)) (asked : Command) → command words ≡ Some as
 unfolding command
 asks [] asked e = absurd (cc e)
 asks (word ∷ []) asked e =
-    asks_one word (is_word (codes "pack") word) (is_word (codes "unpack") word) (is_word (codes "analyse") word) (is_word (codes "meshlets") word) asked refl refl refl refl e
+    asks_one word (is_word (codes "pack") word) (is_word (codes "unpack") word) (is_word (codes "analyse") word) (is_word (codes "lists") word) (is_word (codes "meshlets") word) asked refl refl refl refl refl e
 asks (word ∷ number ∷ []) asked e = asks_two word number (is_word (codes "sample") word) asked refl e
 asks (word ∷ number ∷ other ∷ words) asked e = absurd (cc e)
 
@@ -135,6 +138,7 @@ unfolding command
 has_command words Pack is = ap command is
 has_command words Unpack is = ap command is
 has_command words Analyse is = ap command is
+has_command words Lists is = ap command is
 has_command words Meshlets is = ap command is
 has_command words (Sample n) (least, most, is) = ap command is ∙ sample_asked n least most
 

@@ -8,7 +8,7 @@ use Rattle.gp_asset.specs.declared.refusal.Refusal.TheVariants.{Glb, Json}
 use Rattle.gp_app.specs.Words.{command}
 use Rattle.gp_app.specs.Lines.{done_line, packed_line, line_of_refusal}
 use Rattle.gp_app.specs.Status.{exit_code}
-use Rattle.gp_app.specs.declared.commands.Command.TheVariants.{Pack, Unpack, Analyse, Sample, Meshlets}
+use Rattle.gp_app.specs.declared.commands.Command.TheVariants.{Pack, Unpack, Analyse, Sample, Lists, Meshlets}
 use Rattle.gp_app.specs.declared.status.Status.TheVariants.{Done, Memory}
 
 pack_is_a_command : command (codes "pack" ∷ []) ≡ Some Pack
@@ -22,6 +22,10 @@ unpack_is_a_command = refl
 analyse_is_a_command : command (codes "analyse" ∷ []) ≡ Some Analyse
 unfolding command
 analyse_is_a_command = refl
+
+lists_is_a_command : command (codes "lists" ∷ []) ≡ Some Lists
+unfolding command
+lists_is_a_command = refl
 
 meshlets_is_a_command : command (codes "meshlets" ∷ []) ≡ Some Meshlets
 unfolding command

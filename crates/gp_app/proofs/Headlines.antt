@@ -23,7 +23,7 @@ use Rattle.gp_app.specs.Ends.{Ends, CommandEnds, NoCommandEnds, EndsDone, EndsTo
 use Rattle.gp_app.specs.Headline.{IsPacking, ReportsFault, WritesSame, KeepsAsset, Headline, KeepsContents, IsTextOf, IsTelling, WritesText, TellsText}
 use Rattle.gp_app.proofs.Sizes.{has_size}
 use Rattle.gp_app.specs.declared.commands.Command.{Command}
-use Rattle.gp_app.specs.declared.commands.Command.TheVariants.{Pack, Unpack, Analyse, Sample, Meshlets}
+use Rattle.gp_app.specs.declared.commands.Command.TheVariants.{Pack, Unpack, Analyse, Sample, Lists, Meshlets}
 use Rattle.gp_app.specs.declared.status.Status.{Status}
 use Rattle.gp_app.specs.declared.status.Status.TheVariants.{Done, Refused, Usage, Outside, Memory}
 
@@ -40,6 +40,7 @@ the_input : (asked : Command) (before after : SourceAt) (bytes all : List ℕ) �
 the_input Pack before after bytes all read told = taken before.left after.left bytes all read.all read.at_end told
 the_input Unpack before after bytes all read told = taken before.left after.left bytes all read.all read.at_end told
 the_input Analyse before after bytes all read told = taken before.left after.left bytes all read.all read.at_end told
+the_input Lists before after bytes all read told = taken before.left after.left bytes all read.all read.at_end told
 the_input Meshlets before after bytes all read told = taken before.left after.left bytes all read.all read.at_end told
 the_input (Sample n) before after bytes all (unread, is) told = is ∙ sym told
 
@@ -48,6 +49,7 @@ within : (asked : Command) (before after : SourceAt) (bytes : List ℕ) → HasS
 within Pack before after bytes size read = read.fits
 within Unpack before after bytes size read = read.fits
 within Analyse before after bytes size read = read.fits
+within Lists before after bytes size read = read.fits
 within Meshlets before after bytes size read = read.fits
 within (Sample n) before after bytes size (unread, is) = subst (λ b. length b ≤ 2 ^ 29) (sym is) (sample_fits n size.1)
 
@@ -60,14 +62,14 @@ too_many (Some xs) (Some ys) bytes all lost many told =
     let long : length all ≡ length bytes + length ys = ap length (sym same ∙ lost) ∙ length-append bytes ys in
     omega (arith, long, many)
 
-not_rose : (before now : ℕ) → IsSteady before now → Rose before now → ⊥
+pub not_rose : (before now : ℕ) → IsSteady before now → Rose before now → ⊥
 not_rose before now steady rose = grind (arith, steady.same, steady.below, rose)
 
 says_all : (before after : SinkAt) (line : List ℕ) → IsSteady before.faults after.faults → Says before after line → WroteAll before after line
 says_all before after line steady (inl wrote) = wrote
 says_all before after line steady (inr short) = absurd (not_rose before.faults after.faults steady short.failed)
 
-no_line_fails : (before after : SinkAt) (line : Option (List ℕ)) → IsSteady before.faults after.faults → LineFails before after line → ⊥
+pub no_line_fails : (before after : SinkAt) (line : Option (List ℕ)) → IsSteady before.faults after.faults → LineFails before after line → ⊥
 no_line_fails before after None steady fails = fails
 no_line_fails before after (Some line) steady fails =
     let later : fails.between.faults ≤ after.faults = elim fails.told [ inl wrote ↦ (let k = wrote.kept in omega (arith, k)) | inr short ↦ short.later ] in
@@ -80,6 +82,7 @@ unfolding Makes
 same_made Pack bytes made packs (packed, small, is, e) = subst (Same bytes) (sym (ap (λ (m : Made). m.out) e)) (packed_is_same bytes packed small is)
 same_made Unpack bytes made packs makes = absurd packs
 same_made Analyse bytes made packs makes = absurd packs
+same_made Lists bytes made packs makes = absurd packs
 same_made Meshlets bytes made packs makes = absurd packs
 same_made (Sample n) bytes made packs (packed, small, is, e) = subst (Same bytes) (sym (ap (λ (m : Made). m.out) e)) (packed_is_same bytes packed small is)
 
@@ -122,6 +125,7 @@ text_made Analyse bytes made tells makes = makes
 text_made Meshlets bytes made tells makes = makes
 text_made Pack bytes made tells makes = absurd tells
 text_made Unpack bytes made tells makes = absurd tells
+text_made Lists bytes made tells makes = absurd tells
 text_made (Sample n) bytes made tells makes = absurd tells
 
 -- such a command reads its source
@@ -130,6 +134,7 @@ read_whole Analyse before after bytes tells read = read
 read_whole Meshlets before after bytes tells read = read
 read_whole Pack before after bytes tells read = absurd tells
 read_whole Unpack before after bytes tells read = absurd tells
+read_whole Lists before after bytes tells read = absurd tells
 read_whole (Sample n) before after bytes tells read = absurd tells
 
 done_text : (asked : Command) (before after : Moment) → IsTelling asked → (done : EndsDone asked before after) → MakesText (IsTextOf asked) done.bytes done.made
@@ -153,6 +158,7 @@ told_left : (asked : Command) (left : Option (List ℕ)) (bytes : List ℕ) → 
 told_left Pack left bytes reads told = told
 told_left Unpack left bytes reads told = told
 told_left Analyse left bytes reads told = told
+told_left Lists left bytes reads told = told
 told_left Meshlets left bytes reads told = told
 told_left (Sample n) left bytes reads told = absurd reads
 
@@ -170,6 +176,7 @@ unfolding Refuses
 has_fault Pack bytes refusal packs h = h
 has_fault Unpack bytes refusal packs h = absurd packs
 has_fault Analyse bytes refusal packs h = absurd packs
+has_fault Lists bytes refusal packs h = absurd packs
 has_fault Meshlets bytes refusal packs h = absurd packs
 has_fault (Sample n) bytes refusal packs h = h
 

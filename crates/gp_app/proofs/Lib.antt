@@ -3,3 +3,7 @@ pub mod Asked
 pub mod Headlines
 pub mod RoundTrip
 pub mod Examples
+pub mod Stops
+pub mod Puts
+pub mod WideAsked
+pub mod Asking

@@ -5,7 +5,7 @@ use Rattle.gp_sample.proofs.Lengths.{sample_fits}
 use Rattle.gp_app.specs.Words.{command, is_word, is_digit, is_leading, number_of, sized_sample}
 use Rattle.gp_app.specs.Work.{HasSize}
 use Rattle.gp_app.specs.declared.commands.Command.{Command}
-use Rattle.gp_app.specs.declared.commands.Command.TheVariants.{Pack, Unpack, Analyse, Sample, Meshlets}
+use Rattle.gp_app.specs.declared.commands.Command.TheVariants.{Pack, Unpack, Analyse, Sample, Lists, Meshlets}
 
 pub chosen : {A : Type 0} (b : Bool) (x y : A) → (if b then Some x else None) ≡ Some y → (b ≡ true) × (x ≡ y)
 chosen true x y e = (refl, (cc e))
@@ -44,13 +44,14 @@ sized (Some n) asked least e =
     let p = chosen (nat_le n 512) (Sample n) asked e in
     subst HasSize p.1 (least n refl, grind (arith, p.0))
 
-of_one : (b c d e : Bool) (asked : Command)
-    → (if b then Some Pack else if c then Some Unpack else if d then Some Analyse else if e then Some Meshlets else None) ≡ Some asked → HasSize asked
-of_one true c d e asked is = let one : Pack ≡ asked = cc is in subst HasSize one tt
-of_one false true d e asked is = let one : Unpack ≡ asked = cc is in subst HasSize one tt
-of_one false false true e asked is = let one : Analyse ≡ asked = cc is in subst HasSize one tt
-of_one false false false true asked is = let one : Meshlets ≡ asked = cc is in subst HasSize one tt
-of_one false false false false asked is = absurd (cc is)
+of_one : (b c d e f : Bool) (asked : Command)
+    → (if b then Some Pack else if c then Some Unpack else if d then Some Analyse else if e then Some Lists else if f then Some Meshlets else None) ≡ Some asked → HasSize asked
+of_one true c d e f asked is = let one : Pack ≡ asked = cc is in subst HasSize one tt
+of_one false true d e f asked is = let one : Unpack ≡ asked = cc is in subst HasSize one tt
+of_one false false true e f asked is = let one : Analyse ≡ asked = cc is in subst HasSize one tt
+of_one false false false true f asked is = let one : Lists ≡ asked = cc is in subst HasSize one tt
+of_one false false false false true asked is = let one : Meshlets ≡ asked = cc is in subst HasSize one tt
+of_one false false false false false asked is = absurd (cc is)
 
 of_two : (b : Bool) (o : Option Command) (asked : Command) → (o ≡ Some asked → HasSize asked) → (if b then o else None) ≡ Some asked → HasSize asked
 of_two true o asked small e = small e
@@ -60,7 +61,7 @@ pub has_size : (words : List (List ℕ)) (asked : Command) → command words ≡
 unfolding command
 has_size [] asked e = absurd (cc e)
 has_size (word ∷ []) asked e =
-    of_one (is_word (codes "pack") word) (is_word (codes "unpack") word) (is_word (codes "analyse") word) (is_word (codes "meshlets") word) asked e
+    of_one (is_word (codes "pack") word) (is_word (codes "unpack") word) (is_word (codes "analyse") word) (is_word (codes "lists") word) (is_word (codes "meshlets") word) asked e
 has_size (word ∷ number ∷ []) asked e = of_two (is_word (codes "sample") word) (sized_sample (number_of number)) asked (sized (number_of number) asked (number_above number)) e
 has_size (word ∷ number ∷ other ∷ words) asked e = absurd (cc e)
 

@@ -15,7 +15,7 @@ use Rattle.gp_app.specs.Input.{ReadToEnd}
 use Rattle.gp_app.specs.Work.{Takes, HasInput}
 use Rattle.gp_app.specs.Written.{WroteAll}
 use Rattle.gp_app.specs.declared.commands.Command.{Command}
-use Rattle.gp_app.specs.declared.commands.Command.TheVariants.{Unpack, Analyse, Meshlets}
+use Rattle.gp_app.specs.declared.commands.Command.TheVariants.{Unpack, Analyse, Lists, Meshlets}
 use Rattle.gp_app.specs.declared.status.Status.{Status}
 use Rattle.gp_app.specs.declared.status.Status.TheVariants.{Done, Refused, Memory}
 
@@ -44,6 +44,7 @@ pub record WritesSame (asked : Command) (bytes : List ℕ) (before after : Momen
 abbrev pub IsPacking : Command → Type 0
 IsPacking Unpack = ⊥
 IsPacking Analyse = ⊥
+IsPacking Lists = ⊥
 IsPacking Meshlets = ⊥
 IsPacking _ = ⊤
 

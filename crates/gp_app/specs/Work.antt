@@ -11,12 +11,15 @@ use Rattle.gp_packed.specs.StoredParts.{AreBytes}
 use Rattle.gp_unpack.specs.Unpacked.{unpacking}
 use Rattle.gp_analyse.specs.Reports.{IsReport, HasFault as HasAnalysisFault}
 use Rattle.gp_meshlets.specs.Telling.{IsMeshletText}
+use Rattle.gp_strips.specs.ListedDocument.{listing}
+use Rattle.gp_strips.specs.Answers.{IsListed}
+use Rattle.gp_strips.specs.declared.files.ListsOut.{ListsOut}
 use Rattle.gp_sample.specs.Sample.{sample}
 use Rattle.gp_asset.specs.declared.refusal.Refusal.{Refusal}
-use Rattle.gp_app.specs.Lines.{packed_line, unpacked_line}
+use Rattle.gp_app.specs.Lines.{packed_line, unpacked_line, listed_line}
 use Rattle.gp_app.specs.Input.{ReadToEnd, ReadPart}
 use Rattle.gp_app.specs.declared.commands.Command.{Command}
-use Rattle.gp_app.specs.declared.commands.Command.TheVariants.{Pack, Unpack, Analyse, Sample, Meshlets}
+use Rattle.gp_app.specs.declared.commands.Command.TheVariants.{Pack, Unpack, Analyse, Sample, Lists, Meshlets}
 
 -- a sample has a size from 1 to 512
 abbrev pub HasSize : Command → Type 0
@@ -48,6 +51,7 @@ unfoldable pub Refuses : Command → List ℕ → Refusal → Type 0
 Refuses Pack bytes refusal = HasFault packing bytes refusal
 Refuses Unpack bytes refusal = HasFault unpacking bytes refusal
 Refuses Analyse bytes refusal = HasAnalysisFault bytes refusal
+Refuses Lists bytes refusal = HasFault listing bytes refusal
 Refuses Meshlets bytes refusal = HasAnalysisFault bytes refusal
 Refuses (Sample n) bytes refusal = HasFault packing bytes refusal
 
@@ -61,6 +65,10 @@ abbrev pub MakesFile : Operation → (Output → ℕ → List ℕ) → List ℕ 
 MakesFile operation line bytes made =
     (out : Output) × AreBytes bytes × IsMade operation bytes out × (made ≡ record { out = out.glb; line = Some (line out (length bytes)) })
 
+-- the container in which strips and fans are lists, of an input, which is bytes, and its line
+abbrev pub MakesLists : List ℕ → Made → Type 0
+MakesLists bytes made = (out : ListsOut) × AreBytes bytes × IsListed bytes out × (made ≡ record { out = out.glb; line = Some (listed_line out (length bytes)) })
+
 -- the text of an input, and no line
 abbrev pub MakesText : (List ℕ → List ℕ → Type 0) → List ℕ → Made → Type 0
 MakesText IsText bytes made = (text : List ℕ) × IsText bytes text × (made ≡ record { out = text; line = None })
@@ -69,5 +77,6 @@ unfoldable pub Makes : Command → List ℕ → Made → Type 0
 Makes Pack bytes made = MakesFile packing packed_line bytes made
 Makes Unpack bytes made = MakesFile unpacking unpacked_line bytes made
 Makes Analyse bytes made = MakesText IsReport bytes made
+Makes Lists bytes made = MakesLists bytes made
 Makes Meshlets bytes made = MakesText IsMeshletText bytes made
 Makes (Sample n) bytes made = MakesFile packing packed_line bytes made

@@ -2,11 +2,11 @@
 ghost use Rattle.std.specs.Prelude.{◌≡◌, ◌≤◌, ◌+◌, ◌^◌, length, None, Some, IfOk, IfErr};
 ghost use Rattle.gp_app.specs.Work.{HasSize, Refuses, Makes};
 ghost use Rattle.gp_app.specs.Answer.{Answers, told_line, made_by, IsRefusalOf};
-ghost use Rattle.gp_app.specs.Lines.{done_line};
+ghost use Rattle.gp_app.specs.Lines.{done_line, listed_line};
 ghost use Rattle.gp_app.specs.Taken.{TakesInput};
 
 use crate::commands::Command;
-use crate::lines::{PACKED, UNPACKED, done_line};
+use crate::lines::{PACKED, UNPACKED, done_line, listed_line};
 use arrayvec::ArrayVec;
 use gp_analyse::analyse;
 use gp_asset::Refusal;
@@ -15,6 +15,7 @@ use gp_host::{Bytes, NoMemory, ReadRefusal, Source, read_all};
 use gp_meshlets::meshlets;
 use gp_pack::pack;
 use gp_sample::sample_glb;
+use gp_strips::{ListsOut, lists};
 use gp_unpack::unpack;
 use std::alloc::Global;
 
@@ -68,18 +69,18 @@ fn take_input<S: Source>(alloc: Global, asked: Command, input: &mut S) -> Result
     ensures later { (S.state input.old).faults ≤ (S.state input.new).faults }
 {
     match asked {
-        Command::Pack | Command::Unpack | Command::Analyse | Command::Meshlets => match read_all(
-            alloc, input, MOST,
-        ) {
-            Ok(bytes) => Ok(bytes),
-            Err(ReadRefusal::Failed) => Err(Stop::InputFailed),
-            Err(ReadRefusal::TooLarge) => Err(Stop::TooLarge),
-            Err(ReadRefusal::Memory) => Err(Stop::NoMemory),
-        },
         Command::Sample(size) => match sample_glb(alloc, size) {
             Ok(bytes) => Ok(bytes),
             Err(NoMemory) => Err(Stop::NoMemory),
         },
+        Command::Pack | Command::Unpack | Command::Analyse | Command::Lists | Command::Meshlets => {
+            match read_all(alloc, input, MOST) {
+                Ok(bytes) => Ok(bytes),
+                Err(ReadRefusal::Failed) => Err(Stop::InputFailed),
+                Err(ReadRefusal::TooLarge) => Err(Stop::TooLarge),
+                Err(ReadRefusal::Memory) => Err(Stop::NoMemory),
+            }
+        }
     }
 }
 
@@ -92,25 +93,38 @@ fn work(alloc: Global, asked: Command, bytes: &[u8]) -> Result<Answer, Refusal>
     match asked {
         Command::Pack | Command::Sample(_) => {
             let out = pack(alloc, bytes)?;
-            Ok(answer_with(PACKED, out, bytes.len()))
+            Ok(answer_with(PACKED, out, bytes.len() as u64))
         }
         Command::Unpack => {
             let out = unpack(alloc, bytes)?;
-            Ok(answer_with(UNPACKED, out, bytes.len()))
+            Ok(answer_with(UNPACKED, out, bytes.len() as u64))
         }
         Command::Analyse => Ok(text_alone(analyse(alloc, bytes)?)),
+        Command::Lists => Ok(listed_answer(lists(alloc, bytes)?, bytes.len())),
         Command::Meshlets => Ok(text_alone(meshlets(alloc, bytes)?)),
     }
 }
 
 /// The output, and the line of Done that begins with these words.
-fn answer_with(words: &[u8], out: Output, taken: usize) -> Answer
+pub(crate) fn answer_with(words: &[u8], out: Output, taken: u64) -> Answer
     requires { length words.now ≤ 20 }
     ensures out { result.out ≡ out.glb }
-    ensures line { told_line result ≡ Some (done_line words.now out taken) }
+    ensures line { told_line result ≡ Some (done_line words.now out taken (length out.glb)) }
+{
+    let written = out.glb.as_slice().len() as u64;
+    Answer {
+        line: Some(done_line(words, &out, taken, written)),
+        out: out.glb,
+    }
+}
+
+/// The output of lists, and its line of Done.
+fn listed_answer(out: ListsOut, taken: usize) -> Answer
+    ensures out { result.out ≡ out.glb }
+    ensures line { told_line result ≡ Some (listed_line out taken) }
 {
     Answer {
-        line: Some(done_line(words, &out, taken)),
+        line: Some(listed_line(&out, taken)),
         out: out.glb,
     }
 }
