@@ -8,7 +8,7 @@ fi
 top=$(cd "$(dirname "$0")/.." && pwd)
 place=$(mktemp -d)
 trap 'rm -rf "$place"' EXIT
-bash "$top/tools/install.sh" "$place/bin" >/dev/null
+bash "$top/tools/install.sh" "$place/bin" --program-alone >/dev/null
 mkdir "$place/empty"
 cd "$place/empty"
 for example in "$top"/examples/*.gl*; do

@@ -8,7 +8,7 @@ top=$(cd "$(dirname "$0")/../.." && pwd)
 made=$(mktemp -d)
 trap 'rm -rf "$made"' EXIT
 
-(cd "$top/crates/gp_streams_c" && rt check >"$made/log" 2>&1 && rt lib >>"$made/log" 2>&1) || { tail "$made/log"; exit 1; }
+(cd "$top/crates/gp_library_c" && rt check >"$made/log" 2>&1 && rt lib >>"$made/log" 2>&1) || { tail "$made/log"; exit 1; }
 cxx=${CXX:-g++}
 if printf '#include <meshoptimizer.h>\n' | "$cxx" -E -x c++ - >/dev/null 2>&1; then
     with="-DWITH_MESHOPTIMIZER"
@@ -17,5 +17,5 @@ else
     with=
     their=
 fi
-"$cxx" -std=c++17 -O2 -Wall -Wextra $with "$top/tools/bench/streams.cc" "$top/crates/gp_streams_c/out/libgp_streams_c.a" $their -o "$made/streams"
+"$cxx" -std=c++17 -O2 -Wall -Wextra $with "$top/tools/bench/streams.cc" "$top/crates/gp_library_c/out/libgp_library_c.a" $their -o "$made/streams"
 "$made/streams" "$@"

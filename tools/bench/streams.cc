@@ -21,14 +21,14 @@
 #include <meshoptimizer.h>
 #endif
 
-// The static library of gp_streams_c: a slice is a pointer and a length.
+// The static library of gp_library_c: a slice is a pointer and a length.
 extern "C" {
-uint32_t gp_streams_c_decode_attributes(const uint8_t* bytes, size_t len, size_t count, size_t stride, uint8_t* dest, size_t dest_len);
-uint32_t gp_streams_c_encode_attributes(const uint8_t* source, size_t len, size_t count, size_t stride, uint8_t* room, size_t room_len, size_t* size);
-uint32_t gp_streams_c_decode_sequence(const uint8_t* bytes, size_t len, size_t count, size_t stride, uint8_t* dest, size_t dest_len);
-uint32_t gp_streams_c_encode_sequence(const uint32_t* indices, size_t count, uint8_t* room, size_t room_len, size_t* size);
-uint32_t gp_streams_c_decode_triangles(const uint8_t* bytes, size_t len, size_t count, size_t stride, uint8_t* dest, size_t dest_len);
-uint32_t gp_streams_c_encode_triangles(const uint32_t* indices, size_t count, uint8_t* room, size_t room_len, size_t* size);
+int32_t gp_library_c_decode_attributes(const uint8_t* bytes, size_t len, size_t count, size_t stride, uint8_t* dest, size_t dest_len);
+uint32_t gp_library_c_encode_attributes(const uint8_t* source, size_t len, size_t count, size_t stride, uint8_t* room, size_t room_len, size_t* size);
+int32_t gp_library_c_decode_sequence(const uint8_t* bytes, size_t len, size_t count, size_t stride, uint8_t* dest, size_t dest_len);
+uint32_t gp_library_c_encode_sequence(const uint32_t* indices, size_t count, uint8_t* room, size_t room_len, size_t* size);
+int32_t gp_library_c_decode_triangles(const uint8_t* bytes, size_t len, size_t count, size_t stride, uint8_t* dest, size_t dest_len);
+uint32_t gp_library_c_encode_triangles(const uint32_t* indices, size_t count, uint8_t* room, size_t room_len, size_t* size);
 
 // The heap that the static library asks for.
 struct Tried {
@@ -40,7 +40,7 @@ Tried rattle_alloc(size_t size, size_t) {
     return {block != nullptr, block};
 }
 Tried rattle_realloc(void* old, size_t, size_t size, size_t) {
-    void* block = realloc(old, size);
+    void* block = realloc(old, size + (size == 0));
     return {block != nullptr, block};
 }
 void rattle_dealloc(void* block) { free(block); }
@@ -104,7 +104,7 @@ struct Input {
     Coder theirs;
 };
 
-void must(uint32_t answer) {
+void must(int64_t answer) {
     if (answer != 0) fail("the library answered " + std::to_string(answer));
 }
 
@@ -187,11 +187,11 @@ Input attribute_input(const std::string& name, Bytes plain, size_t stride) {
     input.ours = {
         [=](Bytes& room) {
             size_t size = 0;
-            must(gp_streams_c_encode_attributes(source->data(), source->size(), count, stride, room.data(), room.size(), &size));
+            must(gp_library_c_encode_attributes(source->data(), source->size(), count, stride, room.data(), room.size(), &size));
             return size;
         },
         [=](const Bytes& stream, Bytes& dest) {
-            must(gp_streams_c_decode_attributes(stream.data(), stream.size(), count, stride, dest.data(), dest.size()));
+            must(gp_library_c_decode_attributes(stream.data(), stream.size(), count, stride, dest.data(), dest.size()));
         }};
 #ifdef WITH_MESHOPTIMIZER
     input.theirs = {
@@ -205,8 +205,8 @@ Input attribute_input(const std::string& name, Bytes plain, size_t stride) {
 
 // The calls of both libraries for one kind of index streams.
 struct IndexCalls {
-    decltype(&gp_streams_c_encode_triangles) our_encode;
-    decltype(&gp_streams_c_decode_triangles) our_decode;
+    decltype(&gp_library_c_encode_triangles) our_encode;
+    decltype(&gp_library_c_decode_triangles) our_decode;
 #ifdef WITH_MESHOPTIMIZER
     size_t (*their_encode)(unsigned char*, size_t, const unsigned int*, size_t);
     int (*their_decode)(void*, size_t, size_t, const unsigned char*, size_t);
@@ -238,8 +238,8 @@ Input index_input(const std::string& name, const Indices& indices, double units,
 
 Input triangle_input(const std::string& name, const Indices& indices) {
     IndexCalls calls{};
-    calls.our_encode = gp_streams_c_encode_triangles;
-    calls.our_decode = gp_streams_c_decode_triangles;
+    calls.our_encode = gp_library_c_encode_triangles;
+    calls.our_decode = gp_library_c_decode_triangles;
 #ifdef WITH_MESHOPTIMIZER
     calls.their_encode = meshopt_encodeIndexBuffer;
     calls.their_decode = meshopt_decodeIndexBuffer;
@@ -249,8 +249,8 @@ Input triangle_input(const std::string& name, const Indices& indices) {
 
 Input sequence_input(const std::string& name, const Indices& indices) {
     IndexCalls calls{};
-    calls.our_encode = gp_streams_c_encode_sequence;
-    calls.our_decode = gp_streams_c_decode_sequence;
+    calls.our_encode = gp_library_c_encode_sequence;
+    calls.our_decode = gp_library_c_decode_sequence;
 #ifdef WITH_MESHOPTIMIZER
     calls.their_encode = meshopt_encodeIndexSequence;
     calls.their_decode = meshopt_decodeIndexSequence;

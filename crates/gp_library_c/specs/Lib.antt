@@ -1,0 +1,5 @@
+pub mod Places
+pub mod Answers
+pub mod Bounds
+pub mod Ends
+pub mod InMemory
