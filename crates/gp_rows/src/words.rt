@@ -5,9 +5,10 @@ use gp_host::{MemorySink, MemorySource, NoMemory, Source};
 use std::alloc::Global;
 use std::test::Fail;
 
-const USAGE: &[u8] = b"usage: glbpack pack / unpack / analyse / sample N / meshlets\n";
+pub(crate) const USAGE: &[u8] =
+    b"usage: glbpack pack / unpack / analyse / sample N / lists / bundle F / pair F S / meshlets\n";
 
-fn words_of(alloc: Global, texts: &[&str]) -> Result<Vec<String>, NoMemory> {
+pub(crate) fn words_of(alloc: Global, texts: &[&str]) -> Result<Vec<String>, NoMemory> {
     let mut words = Vec::new(alloc);
     for text in texts {
         words.push(String::from_str(alloc, text)?)?;
@@ -16,7 +17,7 @@ fn words_of(alloc: Global, texts: &[&str]) -> Result<Vec<String>, NoMemory> {
 }
 
 #[test]
-fn five_words_begin_commands(rt: HostRuntime) -> Result<(), Fail> {
+fn six_words_begin_commands(rt: HostRuntime) -> Result<(), Fail> {
     let alloc = rt.alloc();
     assert_eq!(rt; command(&words_of(alloc, &["pack"])?), Some(Command::Pack));
     assert_eq!(rt;
@@ -26,6 +27,10 @@ fn five_words_begin_commands(rt: HostRuntime) -> Result<(), Fail> {
     assert_eq!(rt;
         command(&words_of(alloc, &["analyse"])?),
         Some(Command::Analyse)
+    );
+    assert_eq!(rt;
+        command(&words_of(alloc, &["lists"])?),
+        Some(Command::Lists)
     );
     assert_eq!(rt;
         command(&words_of(alloc, &["meshlets"])?),
