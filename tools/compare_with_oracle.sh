@@ -2,7 +2,7 @@
 # Compares the program with the oracle, an independent implementation in Python, on generated files:
 #   tools/compare_with_oracle.sh ORACLE COUNT SEED..
 # ORACLE is the folder with gen.py and compare.py. For each seed COUNT files are generated whose JSON has no views, and
-# the files for `pack`, `unpack`, `analyse` and `meshlets` among COUNT of every kind. Any difference in status, output or report fails.
+# the files for each command among COUNT of every kind. Any difference in status, output, report or put files fails.
 case "${1:-}" in --help) sed -n '2,/^[^#]/{/^#/s/^# \{0,1\}//p}' "$0"; exit ;; esac
 set -euo pipefail
 top=$(cd "$(dirname "$0")/.." && pwd)
@@ -38,6 +38,9 @@ for seed in "$@"; do
     compare "$seed" R16 "every kind, packed" --only pack
     compare "$seed" R16 "every kind, unpacked" --only unpack
     compare "$seed" R16 "every kind, analysed" --only analyse
+    compare "$seed" R20 "every kind, listed" --only lists
+    compare "$seed" R20 "every kind, bundled" --only bundle
+    compare "$seed" R20 "every kind, paired" --only pair
     compare "$seed" R20 "every kind, meshlets" --only meshlets
 done
 exit "$failed"

@@ -1,4 +1,4 @@
-"""Ordinary meshes as exporters write them, for tools/make_examples.py: a textured cube, a torus, and a figure of boxes that walks.
+"""Ordinary meshes as exporters write them, for tools/make_examples.py: a textured cube, a torus, a hill of one strip, and a figure of boxes that walks.
 
 Each function gives the JSON of an asset and the bytes of its one buffer.
 """
@@ -146,6 +146,28 @@ def torus(rings: int, sides: int) -> tuple[dict, bytes]:
         scenes=[{"nodes": [0]}],
         nodes=[{"name": "torus", "mesh": 0}],
         meshes=[{"primitives": [{"attributes": attributes, "indices": indices}]}],
+    )
+
+
+# ---- a hill
+
+STRIP = 5
+
+
+def hill(size: int) -> tuple[dict, bytes]:
+    """A hill of size * size squares as one strip of triangles without indices, its rows joined by triangles without area."""
+    def point(x: int, z: int) -> tuple:
+        return exact(x / size), exact(math.sin(math.pi * x / size) * math.sin(math.pi * z / size) / 2), exact(z / size)
+
+    rows = [[point(x, z + k) for x in range(size + 1) for k in (0, 1)] for z in range(size)]
+    strip = rows[0] + [corner for last, row in zip(rows, rows[1:]) for corner in (last[-1], row[0], *row)]
+    content = Content()
+    position = content.accessor(strip, FLOAT, "VEC3", VERTICES, bounds=True)
+    return content.asset(
+        scene=0,
+        scenes=[{"nodes": [0]}],
+        nodes=[{"name": "hill", "mesh": 0}],
+        meshes=[{"primitives": [{"attributes": {"POSITION": position}, "mode": STRIP}]}],
     )
 
 

@@ -6,7 +6,7 @@ import math
 import pathlib
 import struct
 
-from example_meshes import cube, figure, torus
+from example_meshes import cube, figure, hill, torus
 from options import reader
 
 EXAMPLES = pathlib.Path(__file__).resolve().parent.parent / "examples"
@@ -107,6 +107,15 @@ def glb(text: str, *others: bytes) -> bytes:
     return b"glTF" + struct.pack("<II", 2, 12 + len(body)) + body
 
 
+def write_beside(name: str, asset: dict, content: bytes) -> None:
+    """Writes a model as a text with its buffer in a file beside it, laid out as Blender's exporter does."""
+    folder = EXAMPLES / "beside"
+    folder.mkdir(exist_ok=True)
+    asset["buffers"] = [{"byteLength": len(content), "uri": f"{name}.bin"}]
+    (folder / f"{name}.bin").write_bytes(content)
+    (folder / f"{name}.gltf").write_text(json.dumps(asset, indent="\t") + "\n")
+
+
 def main() -> None:
     reader(__doc__).parse_args()
     EXAMPLES.mkdir(exist_ok=True)
@@ -115,10 +124,11 @@ def main() -> None:
     (EXAMPLES / "scene.glb").write_bytes(glb(pretty))
     (EXAMPLES / "scene.gltf").write_text(pretty + "\n")
     (EXAMPLES / "notes.glb").write_bytes(glb(pretty, chunk(b"BIN\0", bytes(range(16))), notes))
-    models = {"points": spiral(), "cube": cube(), "torus": torus(100, 100), "figure": figure()}
+    models = {"points": spiral(), "cube": cube(), "torus": torus(100, 100), "hill": hill(48), "figure": figure()}
     for name, (asset, content) in models.items():
         content += bytes(-len(content) % 4)
         (EXAMPLES / f"{name}.glb").write_bytes(glb(json.dumps(asset), chunk(b"BIN\0", content)))
+    write_beside("cube", *cube())
     (EXAMPLES / "spellings.gltf").write_text(SPELLINGS)
     (EXAMPLES / "zeros.gltf").write_text(json.dumps(ZEROS, indent=2) + "\n")
 

@@ -1,5 +1,5 @@
 #!/usr/bin/env bash
-# Runs the program with standard streams that fail, one at a time, and without words:
+# Runs the program with standard streams and folders that fail, one at a time, and without words:
 #   tools/try_streams.sh PROGRAM
 # Each run must end with the exit status that the table in README.md has for it, and leave on the other streams what
 # stands there. Any difference is told, and fails.
@@ -71,8 +71,60 @@ ends "report closed" 3 pack <"$file" >"$output" 2>&-
 writes "$work/packed"
 
 ends "no words" 2 <"$file" >"$output" 2>"$report"
-tells "usage: glbpack pack / unpack / analyse / sample N / meshlets"
+tells "usage: glbpack pack / unpack / analyse / sample N / lists / bundle F / pair F S / meshlets"
+writes /dev/null
+
+# ---- over a folder: the program runs in it, and puts what it puts there
+
+folder=$work/folder
+cp -r "$top/examples/beside" "$folder"
+cd "$folder"
+
+ends "bundled" 0 bundle cube.gltf <&- >"$output" 2>"$report"
+cp "$output" "$work/bundled"
+ends "bundled, output full" 3 bundle cube.gltf >/dev/full 2>"$report"
+tells "output failed"
+ends "bundled, report full" 3 bundle cube.gltf >"$output" 2>/dev/full
+writes "$work/bundled"
+ends "bundled, no such file" 1 bundle none.gltf >"$output" 2>"$report"
+tells "missing file"
+writes /dev/null
+ends "bundled, a folder" 3 bundle . >"$output" 2>"$report"
+tells "folder failed"
+writes /dev/null
+
+ends "paired" 0 pair cube.gltf small <&- >"$output" 2>"$report"
+writes /dev/null
+for part in bin gltf; do
+    [ -s "small.$part" ] || differs "small.$part isn't there"
+done
+ends "paired, bundled again" 1 bundle small.gltf >"$output" 2>"$report"
+tells "refused 13 AlreadyPacked"
+mkdir stuck.bin dead.gltf
+ends "paired, no place for the BIN file" 3 pair cube.gltf stuck >"$output" 2>"$report"
+tells "folder failed"
+[ ! -e stuck.gltf ] || differs "stuck.gltf was put"
+ends "paired, no place for the text" 3 pair cube.gltf dead >"$output" 2>"$report"
+tells "folder failed"
+cmp -s small.bin dead.bin || differs "dead.bin isn't what small.bin is"
+ends "paired, no stem" 2 pair cube.gltf a/b >"$output" 2>"$report"
+
+mv cube.bin elsewhere.bin
+ends "bundled, no buffer" 1 bundle cube.gltf >"$output" 2>"$report"
+tells "missing buffer 0"
+writes /dev/null
+
+# The longest text that is taken has 64 MiB.
+long() {
+    printf '{"asset":{"version":"2.0"}}'
+    head -c $((67108864 - 27 + $1)) /dev/zero | tr '\0' ' '
+}
+long 0 >long.gltf
+ends "the longest text" 0 bundle long.gltf >"$output" 2>"$report"
+long 1 >long.gltf
+ends "a longer text" 1 bundle long.gltf >"$output" 2>"$report"
+tells "refused 7 JsonTooLarge"
 writes /dev/null
 
 [ "$failed" -eq 0 ] || exit 1
-echo "$runs runs with standard streams that fail or none: each ended as it must"
+echo "$runs runs with standard streams and folders that fail or none: each ended as it must"

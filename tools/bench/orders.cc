@@ -4,7 +4,8 @@
 //
 //   orders [--records COUNT] [--triangles COUNT] [--runs COUNT]
 //
-// The first table has the merging of records, with the heap that it takes at most, in bytes a record; the second has the orders.
+// The first table has the merging of records, with the heap that it takes at most, in bytes a record; its last line has records that were
+// chosen against a hasher without a key. The second table has the orders.
 #include <malloc.h>
 
 #include <algorithm>
@@ -127,8 +128,38 @@ Bytes records(size_t count, size_t size, size_t distinct) {
     return out;
 }
 
-void merge_line(const std::string& name, size_t count, size_t size, size_t distinct) {
-    Bytes bytes = records(count, size, distinct);
+uint64_t turned(uint64_t word, int by) { return word << by | word >> (64 - by); }
+
+// SipHash-1-3 of 12 bytes with the key 0, as std's hasher has it without a key of one's own.
+uint64_t plain_hash(const uint8_t* bytes) {
+    uint64_t v0 = 0x736f6d6570736575, v1 = 0x646f72616e646f6d, v2 = 0x6c7967656e657261, v3 = 0x7465646279746573;
+    auto round = [&] {
+        v0 += v1, v1 = turned(v1, 13) ^ v0, v0 = turned(v0, 32);
+        v2 += v3, v3 = turned(v3, 16) ^ v2;
+        v0 += v3, v3 = turned(v3, 21) ^ v0;
+        v2 += v1, v1 = turned(v1, 17) ^ v2, v2 = turned(v2, 32);
+    };
+    uint64_t first = 0, last = uint64_t(12) << 56;
+    memcpy(&first, bytes, 8), memcpy(&last, bytes + 8, 4);
+    v3 ^= first, round(), v0 ^= first;
+    v3 ^= last, round(), v0 ^= last;
+    v2 ^= 0xff, round(), round(), round();
+    return v0 ^ v1 ^ v2 ^ v3;
+}
+
+// Different records of 12 bytes that a stranger found: without a key the search for each begins at slot 0 of 2 * count + 1.
+Bytes records_at_one_slot(size_t count) {
+    Bytes out;
+    uint8_t record[12] = {};
+    for (uint64_t tried = 0; out.size() < 12 * count; ++tried) {
+        memcpy(record, &tried, 8);
+        if (plain_hash(record) % (2 * count + 1) == 0) out.insert(out.end(), record, record + 12);
+    }
+    return out;
+}
+
+void merge_line(const std::string& name, const Bytes& bytes, size_t size) {
+    size_t count = bytes.size() / size;
     Indices places(count);
     uint32_t found = 0;
     held = most_held = 0;
@@ -247,10 +278,12 @@ int main(int argc, char** argv) {
         printf("| records                | size | distinct | ns/record | bytes  | their ns  | bytes  | time  |\n");
         printf("|------------------------|------|----------|-----------|--------|-----------|--------|-------|\n");
         for (size_t size : {12, 32, 64}) {
-            merge_line("half of them repeated", count, size, count / 2);
-            merge_line("all different", count, size, count);
-            merge_line("one repeated", count, size, 1);
+            merge_line("half of them repeated", records(count, size, count / 2), size);
+            merge_line("all different", records(count, size, count), size);
+            merge_line("one repeated", records(count, size, 1), size);
         }
+        merge_line("8192 different", records(8192, 12, 8192), 12);
+        merge_line("8192 at one plain slot", records_at_one_slot(8192), 12);
     }
     if (triangles != 0) {
         printf("\n| triangles              | count    | misses | Mtri/s   | bytes  | misses | their    | bytes  | misses | time  |\n");
